@@ -1,0 +1,9 @@
+use denote.Ref.{now}
+use native.Mathlib.Omega.{arith}
+use Rattle.image.proofs.Reading.{statement-read}
+use Rattle.image.proofs.tables.Tables.statement.Needs as need
+
+pub returns : need.returns
+returns c =
+    statement-read (now (c .args .self .now .image)) (c .args .i) (c .args .self .now .layout) (c .fields-from .result) (c .row .result)
+    (c .args .self .now .placed) (omega arith) (c .fields-from .ensures) (c .row .ensures)
