@@ -1,1 +1,3 @@
+pub mod Below
 pub mod Reading
+pub mod Sizes

@@ -14,6 +14,7 @@ use Rattle.image.specs.Rows.{fieldsFrom, stmtFrom, stmtAt}
 
 pub statement-read : (s : List ℕ) (i : ℕ) (l : Layout) (x : Fields) (r : Option StmtRow) →
     l ≡ layoutOf s → i < l .statements → x ≡ fieldsFrom s (l .«statements_at» + 20 * i) → r ≡ stmtFrom x → r ≡ stmtAt s i
+unfolding stmtAt
 statement-read s i l x r placed lt fields row =
     row ∙ ap stmtFrom (fields ∙ ap (λ (k : Layout). fieldsFrom s (k .«statements_at» + 20 * i)) placed)
     ∙ sym (cond-true (ltb i (layoutOf s .statements)) (stmtFrom (fieldsFrom s (layoutOf s .«statements_at» + 20 * i))) None

@@ -24,8 +24,9 @@ use Rattle.image.specs.Layouts.{layoutOf}
 abbrev pub blockFrom : List ℕ → ℕ → Block
 blockFrom s a = record { first = word s a; count = word s (a + 2) }
 
-abbrev pub blockAt : List ℕ → ℕ → Option Block
-blockAt s i = cond (ltb i (layoutOf s .blocks)) (Some (blockFrom s (layoutOf s .«blocks_at» + 4 * i))) None
+-- past the table, an empty block
+unfoldable pub block : List ℕ → ℕ → Block
+block s i = cond (ltb i (layoutOf s .blocks)) (blockFrom s (layoutOf s .«blocks_at» + 4 * i)) (record { first = 0; count = 0 })
 
 -- 0 is the host's expression under its code, and 1 to 3 are constants; no other kind is known
 abbrev pub exprKind : ℕ → ℕ → Option ExprKind
@@ -40,7 +41,7 @@ placed p (Some k) = Some (record { at = p; kind = k })
 abbrev pub exprFrom : List ℕ → ℕ → Option ExprRow
 exprFrom s a = placed (record { line = word s (a + 2); column = word s (a + 4) }) (exprKind (getD s a 0) (word s (a + 6)))
 
-abbrev pub exprAt : List ℕ → ℕ → Option ExprRow
+unfoldable pub exprAt : List ℕ → ℕ → Option ExprRow
 exprAt s i = cond (ltb i (layoutOf s .expressions)) (exprFrom s (layoutOf s .«expressions_at» + 8 * i)) None
 
 -- a statement row of 20 bytes, field by field
@@ -122,8 +123,16 @@ rowOf p (Some x) = Some (record { at = p; stmt = x })
 abbrev pub stmtFrom : Fields → Option StmtRow
 stmtFrom x = cond (leb (x .flags) 15) (rowOf (record { line = x .line; column = x .column }) (stmtOf x)) None
 
-abbrev pub stmtAt : List ℕ → ℕ → Option StmtRow
+unfoldable pub stmtAt : List ℕ → ℕ → Option StmtRow
 stmtAt s i = cond (ltb i (layoutOf s .statements)) (stmtFrom (fieldsFrom s (layoutOf s .«statements_at» + 20 * i))) None
+
+-- what a row does; one that is not there does nothing
+abbrev pub done : Option StmtRow → Stmt
+done None = Noop
+done (Some x) = x .stmt
+
+unfoldable pub stmt : List ℕ → ℕ → Stmt
+stmt s i = done (stmtAt s i)
 
 -- what a statement refers to, by its kind
 abbrev pub parts : Stmt → Parts
@@ -142,5 +151,5 @@ parts (Return e t) = record { expr = e; body = None; branch = None; name = None;
 parts (Import e n) = record { expr = Some e; body = None; branch = None; name = n; counter = None }
 
 -- the name text, which is the last table
-abbrev pub textOf : List ℕ → List ℕ
+unfoldable pub textOf : List ℕ → List ℕ
 textOf s = drop (layoutOf s .«text_at») s

@@ -2,7 +2,7 @@ ghost use mathlib.Core.Path.{_≡_};
 ghost use Prim.Native.Nat.{ℕ, _+_, _*_, _<_, _≤_};
 ghost use Rattle.std.specs.declared.result.Result.the-variants.{Ok, Err};
 ghost use Rattle.image.specs.Layouts.{layoutOf, laidOut, emptyImage};
-ghost use Rattle.image.specs.Rows.{blockAt, stmtAt, exprAt, textOf};
+ghost use Rattle.image.specs.Rows.{block, stmtAt, stmt, exprAt, textOf};
 use crate::layout::Layout;
 use crate::read::block_from;
 use crate::read::expr_from;
@@ -11,6 +11,7 @@ use crate::read::read_layout;
 use crate::refusal::Refusal;
 use crate::rows::Block;
 use crate::rows::Expr;
+use crate::rows::Stmt;
 use crate::rows::StmtRow;
 use crate::tables::Tables;
 
@@ -54,14 +55,14 @@ impl<'a> Tables<'a> {
         self.layout
     }
 
-    /// Block row `i`; none past the table.
-    pub fn block(&self, i: usize) -> Option<Block>
-        ensures { λ r. ⌜ r ≡ blockAt (now (now (self .entry) .image)) i ⌝ }
+    /// Block row `i`; an empty block past the table.
+    pub fn block(&self, i: usize) -> Block
+        ensures { λ r. ⌜ r ≡ block (now (now (self .entry) .image)) i ⌝ }
     {
         if i >= self.layout.blocks {
-            return None;
+            return Block { first: 0, count: 0 };
         }
-        Some(block_from(self.image, self.layout.blocks_at + 4 * i))
+        block_from(self.image, self.layout.blocks_at + 4 * i)
     }
 
     /// Statement row `i`; none past the table, or where a checked rule could not have the row.
@@ -72,6 +73,16 @@ impl<'a> Tables<'a> {
             return None;
         }
         fields_from(self.image, self.layout.statements_at + 20 * i).row()
+    }
+
+    /// What statement row `i` does: nothing, where `statement` has no row.
+    pub fn stmt(&self, i: usize) -> Stmt
+        ensures { λ r. ⌜ r ≡ stmt (now (now (self .entry) .image)) i ⌝ }
+    {
+        match self.statement(i) {
+            Some(row) => row.stmt,
+            None => Stmt::Noop,
+        }
     }
 
     /// Expression row `i`; none past the table, or where its kind is unknown.

@@ -1,7 +1,13 @@
+use borrow.Author.Needs.{needs}
 use denote.Ref.{now}
 use native.Mathlib.Omega.{arith}
+use Rattle.image.specs.Rows.{stmtAt}
 use Rattle.image.proofs.Reading.{statement-read}
 use Rattle.image.proofs.tables.Tables.statement.Needs as need
+
+pub returns-then-i-self : need.returns-then-i-self
+unfolding stmtAt
+returns-then-i-self c = search needs
 
 pub returns : need.returns
 returns c =
