@@ -1,0 +1,5 @@
+mod Sums
+mod Costs
+mod Levels
+mod Rooms
+mod Filling

@@ -1,0 +1,5 @@
+//! A checked rule, and its quote.
+
+mod summary;
+mod table;
+mod tally;
