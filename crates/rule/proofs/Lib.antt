@@ -3,3 +3,5 @@ mod Costs
 mod Levels
 mod Rooms
 mod Filling
+mod Depths
+mod Verdicts

@@ -1,8 +1,9 @@
 -- the check of an image, and the quote of a rule that passes it
-use mathlib.Core.Bool.{Bool, cond, _&&_}
+use mathlib.Core.Bool.{Bool, true, cond}
 use mathlib.Core.List.{List}
 use mathlib.Core.Path.{_≡_}
 use Prim.Native.Nat.{ℕ}
+use Rattle.std.specs.Results.{isOk}
 use Rattle.std.specs.declared.option.Option.{Option}
 use Rattle.std.specs.declared.result.Result.{Result}
 use Rattle.std.specs.declared.result.Result.the-variants.{Ok, Err}
@@ -20,18 +21,20 @@ quote s = blockQuote s deepest 0
 abbrev pub unless : Bool → Refusal → Result (Option ℕ) Refusal → Result (Option ℕ) Refusal
 unless holds refusal answer = cond holds answer (Err refusal)
 
--- the quote, or the first refusal that applies
-abbrev pub checked : List ℕ → Result (Option ℕ) Refusal
-checked s =
-    unless (headed s) Header
-    (unless (counted s) Counts
-    (unless (inOrder s) Blocks
+-- the same from the rules of the tables on, where the header is right
+abbrev pub examined : List ℕ → Result (Option ℕ) Refusal
+examined s =
+    unless (inOrder s) Blocks
     (unless (allSound s) Rows
     (unless (namedOnce s) Naming
     (unless (within s deepest 0) Nesting
     (unless (contained s deepest 0) StrayBreak
-    (Ok (quote s))))))))
+    (Ok (quote s))))))
 
--- an image that no refusal applies to
+-- the quote, or the first refusal that applies
+abbrev pub checked : List ℕ → Result (Option ℕ) Refusal
+checked s = unless (headed s) Header (unless (counted s) Counts (examined s))
+
+-- an image that is not refused
 abbrev pub Lawful : List ℕ → Type 0
-Lawful s = checked s ≡ Ok (quote s)
+Lawful s = isOk (checked s) ≡ true

@@ -70,7 +70,7 @@ fn of_block(tables: &Tables, table: &[Summary; MOST_BLOCKS], b: usize) -> Summar
 }
 
 /// The summaries of all blocks.
-pub(crate) fn summaries(tables: &Tables) -> [Summary; MOST_BLOCKS]
+fn summaries(tables: &Tables) -> [Summary; MOST_BLOCKS]
     requires order { ⌜ inOrder (now (now tables .image)) ≡ true ⌝ }
     requires rows { ⌜ allSound (now (now tables .image)) ≡ true ⌝ }
     requires naming { ⌜ namedOnce (now (now tables .image)) ≡ true ⌝ }
@@ -82,4 +82,15 @@ pub(crate) fn summaries(tables: &Tables) -> [Summary; MOST_BLOCKS]
         table[b] = of_block(tables, &table, b);
     }
     table
+}
+
+/// The summary of block 0, and so of the whole rule.
+pub(crate) fn outermost(tables: &Tables) -> Summary
+    requires order { ⌜ inOrder (now (now tables .image)) ≡ true ⌝ }
+    requires rows { ⌜ allSound (now (now tables .image)) ≡ true ⌝ }
+    requires naming { ⌜ namedOnce (now (now tables .image)) ≡ true ⌝ }
+    ensures { λ r. ⌜ r ≡ summary (now (now (tables .entry) .image)) 0 ⌝ }
+{
+    let table = summaries(tables);
+    entry(&table, 0)
 }
