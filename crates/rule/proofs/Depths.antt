@@ -27,14 +27,16 @@ leb-is a c false yes′ no′ = lt-leb a c (no′ refl)
 leb-joined : (a h p q c : ℕ) → h ≡ 1 + max p q → leb (max a h) (suc c) ≡ (leb p c && leb q c) && leb a (suc c)
 leb-joined a h p q c e =
     leb-is (max a h) (suc c) ((leb p c && leb q c) && leb a (suc c))
-        (λ t. let all = and-parts (leb p c && leb q c) (leb a (suc c)) t in
-              let two = and-parts (leb p c) (leb q c) (all .0) in
-              omega (arith, leb-true p c (two .0), leb-true q c (two .1), leb-true a (suc c) (all .1)))
-        (λ t. elim (and-cases (leb p c && leb q c) (leb a (suc c)) t) [
-            inl f ↦ elim (and-cases (leb p c) (leb q c) f) [
-                inl x ↦ omega (arith, leb-false p c x)
-              | inr x ↦ omega (arith, leb-false q c x) ]
-          | inr f ↦ omega (arith, leb-false a (suc c) f) ])
+    (λ t. let all = and-parts (leb p c && leb q c) (leb a (suc c)) t in
+    let two = and-parts (leb p c) (leb q c) (all .0) in
+    omega (arith, leb-true p c (two .0), leb-true q c (two .1), leb-true a (suc c) (all .1)))
+    (λ t. elim (and-cases (leb p c && leb q c) (leb a (suc c)) t) [
+      | inl f ↦ elim (and-cases (leb p c) (leb q c) f) [
+        | inl x ↦ omega (arith, leb-false p c x)
+        | inr x ↦ omega (arith, leb-false q c x)
+      ]
+      | inr f ↦ omega (arith, leb-false a (suc c) f)
+    ])
 
 all-same : (p q : ℕ → Bool) (n : ℕ) → ((k : ℕ) → k < n → p k ≡ q k) → allBelow p n ≡ allBelow q n
 all-same p q zero h = refl
@@ -47,7 +49,7 @@ plus-same f g (suc n) h =
     ap (λ x. plus x (f n)) (plus-same f g n (λ k lt. h k (omega arith))) ∙ ap (λ x. plus (plusBelow g n) x) (h n (omega arith))
 
 -- the parts of joined summaries
-joined-quote : (f : ℕ → Summary) (n : ℕ) → joinedBelow f n .quote ≡ plusBelow (λ k. f k .quote) n
+pub joined-quote : (f : ℕ → Summary) (n : ℕ) → joinedBelow f n .quote ≡ plusBelow (λ k. f k .quote) n
 joined-quote f zero = refl
 joined-quote f (suc n) = ap (λ x. plus x (f n .quote)) (joined-quote f n)
 
@@ -83,12 +85,12 @@ module _ (s : List ℕ) (naming : namedOnce s ≡ true) where
       let body : ℕ → Option ℕ = λ k. parts (stmtIn s b k) .body in
       let branch : ℕ → Option ℕ = λ k. parts (stmtIn s b k) .branch in
       all-same (λ k. named true (within s d) (body k) && named true (within s d) (branch k))
-          (λ k. leb (named absent (summary s) (body k) .height) d && leb (named absent (summary s) (branch k) .height) d) (block s b .count)
-          (λ k lt. ap (λ x. x && named true (within s d) (branch k)) (named-within d (within-height d) (body k))
-              ∙ ap (λ x. leb (named absent (summary s) (body k) .height) d && x) (named-within d (within-height d) (branch k)))
+      (λ k. leb (named absent (summary s) (body k) .height) d && leb (named absent (summary s) (branch k) .height) d) (block s b .count)
+      (λ k lt. ap (λ x. x && named true (within s d) (branch k)) (named-within d (within-height d) (body k))
+      ∙ ap (λ x. leb (named absent (summary s) (body k) .height) d && x) (named-within d (within-height d) (branch k)))
       ∙ sym (ap (λ (x : Summary). leb (x .height) (suc d)) (fixed s naming b)
-          ∙ joined-within (ofRow s (summary s) b) (λ k. named absent (summary s) (body k) .height) (λ k. named absent (summary s) (branch k) .height) d
-              (block s b .count) (λ k. refl))
+      ∙ joined-within (ofRow s (summary s) b) (λ k. named absent (summary s) (body k) .height) (λ k. named absent (summary s) (branch k) .height) d
+      (block s b .count) (λ k. refl))
 
   named-quote : (d : ℕ) → ((b : ℕ) → within s d b ≡ true → blockQuote s d b ≡ summary s b .quote) → (o : Option ℕ) → named true (within s d) o ≡ true →
       named (Some 0) (blockQuote s d) o ≡ named absent (summary s) o .quote
@@ -103,12 +105,12 @@ module _ (s : List ℕ) (naming : namedOnce s ≡ true) where
       let body : ℕ → Option ℕ = λ k. parts (stmtIn s b k) .body in
       let branch : ℕ → Option ℕ = λ k. parts (stmtIn s b k) .branch in
       let each = λ (k : ℕ) (lt : k < block s b .count).
-          and-parts (named true (within s d) (body k)) (named true (within s d) (branch k))
-              (all-at (λ k. named true (within s d) (body k) && named true (within s d) (branch k)) (block s b .count) k lt w) in
+      and-parts (named true (within s d) (body k)) (named true (within s d) (branch k))
+      (all-at (λ k. named true (within s d) (body k) && named true (within s d) (branch k)) (block s b .count) k lt w) in
       plus-same (λ k. stmtQuote (stmtIn s b k) (named (Some 0) (blockQuote s d) (body k)) (named (Some 0) (blockQuote s d) (branch k)))
-          (λ k. ofRow s (summary s) b k .quote) (block s b .count)
-          (λ k lt. ap (λ x. stmtQuote (stmtIn s b k) x (named (Some 0) (blockQuote s d) (branch k))) (named-quote d (quote-summary d) (body k) (each k lt .0))
-              ∙ ap (λ x. stmtQuote (stmtIn s b k) (named absent (summary s) (body k) .quote) x) (named-quote d (quote-summary d) (branch k) (each k lt .1)))
+      (λ k. ofRow s (summary s) b k .quote) (block s b .count)
+      (λ k lt. ap (λ x. stmtQuote (stmtIn s b k) x (named (Some 0) (blockQuote s d) (branch k))) (named-quote d (quote-summary d) (body k) (each k lt .0))
+      ∙ ap (λ x. stmtQuote (stmtIn s b k) (named absent (summary s) (body k) .quote) x) (named-quote d (quote-summary d) (branch k) (each k lt .1)))
       ∙ sym (ap (λ (x : Summary). x .quote) (fixed s naming b) ∙ joined-quote (ofRow s (summary s) b) (block s b .count))
 
   named-contained : (d : ℕ) → ((b : ℕ) → within s d b ≡ true → contained s d b ≡ summary s b .contained) → (o : Option ℕ) → named true (within s d) o ≡ true →
@@ -123,10 +125,10 @@ module _ (s : List ℕ) (naming : namedOnce s ≡ true) where
       let body : ℕ → Option ℕ = λ k. parts (stmtIn s b k) .body in
       let branch : ℕ → Option ℕ = λ k. parts (stmtIn s b k) .branch in
       let each = λ (k : ℕ) (lt : k < block s b .count).
-          and-parts (named true (within s d) (body k)) (named true (within s d) (branch k))
-              (all-at (λ k. named true (within s d) (body k) && named true (within s d) (branch k)) (block s b .count) k lt w) in
+      and-parts (named true (within s d) (body k)) (named true (within s d) (branch k))
+      (all-at (λ k. named true (within s d) (body k) && named true (within s d) (branch k)) (block s b .count) k lt w) in
       all-same (λ k. holdsBreaks (stmtIn s b k) (named true (contained s d) (body k)) (named true (contained s d) (branch k)))
-          (λ k. ofRow s (summary s) b k .contained) (block s b .count)
-          (λ k lt. ap (λ x. holdsBreaks (stmtIn s b k) x (named true (contained s d) (branch k))) (named-contained d (contained-summary d) (body k) (each k lt .0))
-              ∙ ap (λ x. holdsBreaks (stmtIn s b k) (named absent (summary s) (body k) .contained) x) (named-contained d (contained-summary d) (branch k) (each k lt .1)))
+      (λ k. ofRow s (summary s) b k .contained) (block s b .count)
+      (λ k lt. ap (λ x. holdsBreaks (stmtIn s b k) x (named true (contained s d) (branch k))) (named-contained d (contained-summary d) (body k) (each k lt .0))
+      ∙ ap (λ x. holdsBreaks (stmtIn s b k) (named absent (summary s) (body k) .contained) x) (named-contained d (contained-summary d) (branch k) (each k lt .1)))
       ∙ sym (ap (λ (x : Summary). x .contained) (fixed s naming b) ∙ joined-contained (ofRow s (summary s) b) (block s b .count))

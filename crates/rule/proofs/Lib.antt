@@ -5,3 +5,6 @@ mod Rooms
 mod Filling
 mod Depths
 mod Verdicts
+mod Naming
+mod Nesting
+mod Quotes

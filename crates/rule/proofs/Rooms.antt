@@ -67,14 +67,20 @@ above-lower : (b c : ℕ) (o : Option ℕ) → b ≤ c → above c o ≡ true �
 above-lower b c None le h = refl
 above-lower b c (Some m) le h = lt-ltb b m (omega (arith, ltb-true c m h))
 
+-- the blocks have all the statements
+pub statements-in : (s : List ℕ) → inOrder s ≡ true → before s (layoutOf s .blocks) ≡ layoutOf s .statements
+statements-in s order =
+    eqb-true (before s (layoutOf s .blocks)) (layoutOf s .statements)
+    (and-parts (allBelow (λ b. eqb (block s b .first) (before s b)) (layoutOf s .blocks)) _ order .1)
+
 module _ (s : List ℕ) (order : inOrder s ≡ true) (rows : allSound s ≡ true) (naming : namedOnce s ≡ true) where
-  abbrev count : ℕ → ℕ
+  abbrev pub count : ℕ → ℕ
   count c = block s c .count
 
   abbrev hit : ℕ → ℕ → ℕ
   hit j k = hits (parts (stmt s j)) k
 
-  abbrev worth : ℕ → ℕ
+  abbrev pub worth : ℕ → ℕ
   worth c = value (summary s c .quote)
 
   -- how many blocks there are above block b
@@ -132,7 +138,7 @@ module _ (s : List ℕ) (order : inOrder s ≡ true) (rows : allSound s ≡ true
   weighed b c le lt =
       under (cost s (summary s) c) (λ k. weight (λ _. 3) hit worth (b + 1) (rest b) (before s c + k)) (count c) (λ k h. weights b c k le lt h)
 
-  worth-cost : (c : ℕ) → worth c ≤ sumBelow (cost s (summary s) c) (count c)
+  pub worth-cost : (c : ℕ) → worth c ≤ sumBelow (cost s (summary s) c) (count c)
   worth-cost c =
       omega (
         arith,

@@ -46,14 +46,14 @@ module _ (s : List ℕ) (order : inOrder s ≡ true) (rows : allSound s ≡ true
   unfolding asked
   strays h e =
       sym (to-asked ∙ cond-true (within s deepest 0) _ (Err Nesting) (fits-in h)
-          ∙ cond-false (contained s deepest 0) _ (Err StrayBreak) (contained-summary s naming deepest 0 (fits-in h) ∙ e))
+      ∙ cond-false (contained s deepest 0) _ (Err StrayBreak) (contained-summary s naming deepest 0 (fits-in h) ∙ e))
 
   pub passes : summary s 0 .height ≤ deepest → summary s 0 .contained ≡ true → Ok (summary s 0 .quote) ≡ examined s
   unfolding asked
   passes h e =
       ap answer (sym (quote-summary s naming deepest 0 (fits-in h)))
       ∙ sym (to-asked ∙ cond-true (within s deepest 0) _ (Err Nesting) (fits-in h)
-          ∙ cond-true (contained s deepest 0) _ (Err StrayBreak) (contained-summary s naming deepest 0 (fits-in h) ∙ e))
+      ∙ cond-true (contained s deepest 0) _ (Err StrayBreak) (contained-summary s naming deepest 0 (fits-in h) ∙ e))
 
 -- a test that an answer went through
 ok-unless : (b : Bool) (r : Refusal) (a : Result (Option ℕ) Refusal) → isOk (unless b r a) ≡ true → (b ≡ true) × (isOk a ≡ true)

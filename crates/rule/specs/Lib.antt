@@ -1,3 +1,4 @@
 pub mod Tree
 pub mod Summaries
 pub mod Checked
+pub mod Laws

@@ -2,6 +2,7 @@ ghost use mathlib.Core.Path.{_≡_};
 ghost use Rattle.std.specs.declared.result.Result.the-variants.{Ok, Err};
 ghost use Rattle.image.specs.Layouts.{emptyImage};
 ghost use Rattle.rule.specs.Checked.{checked, quote};
+ghost use Rattle.rule.specs.Laws.{EachNamedOnce, NestsNoDeeper, QuotedIfNoLoop, AtMostThrice};
 use crate::checked::CheckedRule;
 use crate::examine::examine;
 use crate::table::outermost;
@@ -13,7 +14,9 @@ impl<'a> CheckedRule<'a> {
     pub fn empty() -> CheckedRule<'a>
         ensures { λ r. ⌜ now (r .tables .image) ≡ emptyImage ⌝ }
     {
-        CheckedRule { tables: Tables::empty() }
+        CheckedRule {
+            tables: Tables::empty(),
+        }
     }
 
     /// Checks an image, and fills `place` with its rule if it passes. The answer is the rule's quote, which a rule with a
@@ -31,14 +34,18 @@ impl<'a> CheckedRule<'a> {
 
     /// The rule's tables, through which its rows are read.
     pub fn tables(&self) -> Tables<'a>
-        ensures { λ r. ⌜ r ≡ now (self .entry) .tables ⌝ }
+        ensures value { λ r. ⌜ r ≡ now (self .entry) .tables ⌝ }
+        ensures named_once { λ r. ⌜ EachNamedOnce (now (r .image)) ⌝ }
+        ensures nested { λ r. ⌜ NestsNoDeeper (now (r .image)) ⌝ }
     {
         self.tables
     }
 
     /// What a run of the rule counts at most; none if the rule has a loop.
     pub fn quote(&self) -> Option<u32>
-        ensures { λ r. ⌜ r ≡ quote (now (now (self .entry) .tables .image)) ⌝ }
+        ensures value { λ r. ⌜ r ≡ quote (now (now (self .entry) .tables .image)) ⌝ }
+        ensures present { λ _. ⌜ QuotedIfNoLoop (now (now (self .entry) .tables .image)) ⌝ }
+        ensures bound { λ _. ⌜ AtMostThrice (now (now (self .entry) .tables .image)) ⌝ }
     {
         outermost(&self.tables).quote
     }

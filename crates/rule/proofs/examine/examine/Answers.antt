@@ -23,7 +23,7 @@ returns-then-not-rule c =
     let height = ap (λ (x : Summary). x .height) (c .outermost-rule .ensures) in
     let low : summary s 0 .height ≤ deepest = omega arith in
     strays s (sym (c .if-not-in-order .ensures tt)) (sym (c .if-not-all-sound .ensures tt)) (sym (c .if-not-named-once .ensures tt)) low
-        (ap (λ (x : Summary). x .contained) (sym (c .outermost-rule .ensures)) ∙ not-true _ (c .if-not-rule .taken))
+    (ap (λ (x : Summary). x .contained) (sym (c .outermost-rule .ensures)) ∙ not-true _ (c .if-not-rule .taken))
 
 pub returns : need.returns
 returns c =
@@ -32,4 +32,4 @@ returns c =
     let low : summary s 0 .height ≤ deepest = omega arith in
     ap (λ (x : Summary). answer (x .quote)) (c .outermost-rule .ensures)
     ∙ passes s (sym (c .if-not-in-order .ensures tt)) (sym (c .if-not-all-sound .ensures tt)) (sym (c .if-not-named-once .ensures tt)) low
-        (ap (λ (x : Summary). x .contained) (sym (c .outermost-rule .ensures)) ∙ not-false _ (c .if-not-rule .left))
+    (ap (λ (x : Summary). x .contained) (sym (c .outermost-rule .ensures)) ∙ not-false _ (c .if-not-rule .left))

@@ -11,4 +11,4 @@ returns-in-Break-read c =
     let s = now (c .args .image) in
     let p = err-from-errBy (c .from-residual .result) (c .from-residual .ensures .1) in
     rw (p .1, p .2)
-        record { answer = header-refused (headed s) (counted s) (layoutOf s) (examined s) (c .in-Break-read .field-0 .0) (c .in-Break-read .ensures tt .answer); filled = refl }
+    record { answer = header-refused (headed s) (counted s) (layoutOf s) (examined s) (c .in-Break-read .field-0 .0) (c .in-Break-read .ensures tt .answer); filled = refl }

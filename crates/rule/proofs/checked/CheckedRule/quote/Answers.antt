@@ -3,6 +3,7 @@ use denote.Ref.{now}
 use Rattle.rule.specs.declared.summary.Summary.{Summary}
 use Rattle.rule.specs.Tree.{deepest}
 use Rattle.rule.proofs.Depths.{quote-summary}
+use Rattle.rule.proofs.Quotes.{quoted-if-no-loop, at-most-thrice}
 use Rattle.rule.proofs.Verdicts.{rules}
 use Rattle.rule.proofs.checked.CheckedRule.quote.Needs as need
 
@@ -15,4 +16,8 @@ pub returns : need.returns
 returns c =
     let s = now (c .args .self .now .tables .image) in
     let kept = rules s (c .args .self .now .lawful) in
-    ap (λ (x : Summary). x .quote) (c .outermost .ensures) ∙ sym (quote-summary s (kept .naming) deepest 0 (kept .nesting))
+    record {
+      value = ap (λ (x : Summary). x .quote) (c .outermost .ensures) ∙ sym (quote-summary s (kept .naming) deepest 0 (kept .nesting));
+      present = quoted-if-no-loop s kept;
+      bound = at-most-thrice s kept;
+    }
