@@ -131,7 +131,7 @@ abbrev pub done : Option StmtRow → Stmt
 done None = Noop
 done (Some x) = x .stmt
 
-unfoldable pub stmt : List ℕ → ℕ → Stmt
+abbrev pub stmt : List ℕ → ℕ → Stmt
 stmt s i = done (stmtAt s i)
 
 -- what a statement refers to, by its kind
@@ -151,5 +151,5 @@ parts (Return e t) = record { expr = e; body = None; branch = None; name = None;
 parts (Import e n) = record { expr = Some e; body = None; branch = None; name = n; counter = None }
 
 -- the name text, which is the last table
-unfoldable pub textOf : List ℕ → List ℕ
+abbrev pub textOf : List ℕ → List ℕ
 textOf s = drop (layoutOf s .«text_at») s

@@ -92,10 +92,19 @@ module _ (s : List ℕ) (naming : namedOnce s ≡ true) where
       ∙ joined-within (ofRow s (summary s) b) (λ k. named absent (summary s) (body k) .height) (λ k. named absent (summary s) (branch k) .height) d
       (block s b .count) (λ k. refl))
 
-  named-quote : (d : ℕ) → ((b : ℕ) → within s d b ≡ true → blockQuote s d b ≡ summary s b .quote) → (o : Option ℕ) → named true (within s d) o ≡ true →
-      named (Some 0) (blockQuote s d) o ≡ named absent (summary s) o .quote
-  named-quote d h None w = refl
-  named-quote d h (Some n) w = h n w
+  -- what a view of the summaries says of a named block, if it does so within d levels
+  named-agrees : {A : Type 0} (x : A) (f : ℕ → A) (view : Summary → A) (d : ℕ) → x ≡ view absent →
+      ((b : ℕ) → within s d b ≡ true → f b ≡ view (summary s b)) → (o : Option ℕ) → named true (within s d) o ≡ true → named x f o ≡ view (named absent (summary s) o)
+  named-agrees x f view d e h None w = e
+  named-agrees x f view d e h (Some n) w = h n w
+
+  -- the blocks that a statement names are within one level less
+  parts-within : (d b k : ℕ) → within s (suc d) b ≡ true → k < block s b .count →
+      (named true (within s d) (parts (stmtIn s b k) .body) ≡ true) × (named true (within s d) (parts (stmtIn s b k) .branch) ≡ true)
+  unfolding within
+  parts-within d b k w lt =
+      and-parts (named true (within s d) (parts (stmtIn s b k) .body)) (named true (within s d) (parts (stmtIn s b k) .branch))
+      (all-at (λ k. named true (within s d) (parts (stmtIn s b k) .body) && named true (within s d) (parts (stmtIn s b k) .branch)) (block s b .count) k lt w)
 
   -- within the levels that are looked at, the quote is the summary's
   pub quote-summary : (d b : ℕ) → within s d b ≡ true → blockQuote s d b ≡ summary s b .quote
@@ -104,19 +113,12 @@ module _ (s : List ℕ) (naming : namedOnce s ≡ true) where
   quote-summary (suc d) b w =
       let body : ℕ → Option ℕ = λ k. parts (stmtIn s b k) .body in
       let branch : ℕ → Option ℕ = λ k. parts (stmtIn s b k) .branch in
-      let each = λ (k : ℕ) (lt : k < block s b .count).
-      and-parts (named true (within s d) (body k)) (named true (within s d) (branch k))
-      (all-at (λ k. named true (within s d) (body k) && named true (within s d) (branch k)) (block s b .count) k lt w) in
+      let agrees = named-agrees (Some 0) (blockQuote s d) (λ x. x .quote) d refl (quote-summary d) in
       plus-same (λ k. stmtQuote (stmtIn s b k) (named (Some 0) (blockQuote s d) (body k)) (named (Some 0) (blockQuote s d) (branch k)))
       (λ k. ofRow s (summary s) b k .quote) (block s b .count)
-      (λ k lt. ap (λ x. stmtQuote (stmtIn s b k) x (named (Some 0) (blockQuote s d) (branch k))) (named-quote d (quote-summary d) (body k) (each k lt .0))
-      ∙ ap (λ x. stmtQuote (stmtIn s b k) (named absent (summary s) (body k) .quote) x) (named-quote d (quote-summary d) (branch k) (each k lt .1)))
+      (λ k lt. ap (λ x. stmtQuote (stmtIn s b k) x (named (Some 0) (blockQuote s d) (branch k))) (agrees (body k) (parts-within d b k w lt .0))
+      ∙ ap (λ x. stmtQuote (stmtIn s b k) (named absent (summary s) (body k) .quote) x) (agrees (branch k) (parts-within d b k w lt .1)))
       ∙ sym (ap (λ (x : Summary). x .quote) (fixed s naming b) ∙ joined-quote (ofRow s (summary s) b) (block s b .count))
-
-  named-contained : (d : ℕ) → ((b : ℕ) → within s d b ≡ true → contained s d b ≡ summary s b .contained) → (o : Option ℕ) → named true (within s d) o ≡ true →
-      named true (contained s d) o ≡ named absent (summary s) o .contained
-  named-contained d h None w = refl
-  named-contained d h (Some n) w = h n w
 
   pub contained-summary : (d b : ℕ) → within s d b ≡ true → contained s d b ≡ summary s b .contained
   unfolding within contained
@@ -124,11 +126,9 @@ module _ (s : List ℕ) (naming : namedOnce s ≡ true) where
   contained-summary (suc d) b w =
       let body : ℕ → Option ℕ = λ k. parts (stmtIn s b k) .body in
       let branch : ℕ → Option ℕ = λ k. parts (stmtIn s b k) .branch in
-      let each = λ (k : ℕ) (lt : k < block s b .count).
-      and-parts (named true (within s d) (body k)) (named true (within s d) (branch k))
-      (all-at (λ k. named true (within s d) (body k) && named true (within s d) (branch k)) (block s b .count) k lt w) in
+      let agrees = named-agrees true (contained s d) (λ x. x .contained) d refl (contained-summary d) in
       all-same (λ k. holdsBreaks (stmtIn s b k) (named true (contained s d) (body k)) (named true (contained s d) (branch k)))
       (λ k. ofRow s (summary s) b k .contained) (block s b .count)
-      (λ k lt. ap (λ x. holdsBreaks (stmtIn s b k) x (named true (contained s d) (branch k))) (named-contained d (contained-summary d) (body k) (each k lt .0))
-      ∙ ap (λ x. holdsBreaks (stmtIn s b k) (named absent (summary s) (body k) .contained) x) (named-contained d (contained-summary d) (branch k) (each k lt .1)))
+      (λ k lt. ap (λ x. holdsBreaks (stmtIn s b k) x (named true (contained s d) (branch k))) (agrees (body k) (parts-within d b k w lt .0))
+      ∙ ap (λ x. holdsBreaks (stmtIn s b k) (named absent (summary s) (body k) .contained) x) (agrees (branch k) (parts-within d b k w lt .1)))
       ∙ sym (ap (λ (x : Summary). x .contained) (fixed s naming b) ∙ joined-contained (ofRow s (summary s) b) (block s b .count))

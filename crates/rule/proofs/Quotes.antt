@@ -145,7 +145,7 @@ some-fails p (suc n) h =
 
 -- past the table there is no loop
 past-loop : (s : List ℕ) (j : ℕ) → layoutOf s .statements ≤ j → isLoop (stmt s j) ≡ false
-unfolding stmt stmtAt
+unfolding stmtAt
 past-loop s j le =
     ap (λ o. isLoop (done o)) (cond-false (ltb j (layoutOf s .statements)) (stmtFrom (fieldsFrom s _)) None (le-ltb j (layoutOf s .statements) le))
 

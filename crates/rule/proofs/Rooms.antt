@@ -104,7 +104,6 @@ module _ (s : List ℕ) (order : inOrder s ≡ true) (rows : allSound s ≡ true
   inside b k lt h = omega (arith, ends b lt)
 
   pub fit : (j : ℕ) → j < layoutOf s .statements → fits s (parts (stmt s j)) ≡ true
-  unfolding stmt
   fit j lt =
       sound-fits s (stmtAt s j) (all-at (sound s) (layoutOf s .statements) j lt (and-parts (allBelow (sound s) (layoutOf s .statements)) _ rows .0))
 

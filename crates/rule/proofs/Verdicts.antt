@@ -19,41 +19,22 @@ use Rattle.checks.specs.Rules.{inOrder, allSound, namedOnce}
 use Rattle.rule.specs.declared.summary.Summary.{Summary}
 use Rattle.rule.specs.Tree.{deepest, within, contained, blockQuote}
 use Rattle.rule.specs.Checked.{quote, unless, examined, checked, Lawful}
-use Rattle.rule.specs.Summaries.{summary}
+use Rattle.rule.specs.Summaries.{summary, settled}
 use Rattle.rule.proofs.Depths.{within-height, contained-summary, quote-summary}
 
-abbrev pub answer : Option ℕ → Result (Option ℕ) Refusal
-answer q = Ok q
-
+-- once the tables are in order, the summary of block 0 gives the answer
 module _ (s : List ℕ) (order : inOrder s ≡ true) (rows : allSound s ≡ true) (naming : namedOnce s ≡ true) where
-  -- what is left to ask once the tables are in order
-  asked : Result (Option ℕ) Refusal
-  asked = unless (within s deepest 0) Nesting (unless (contained s deepest 0) StrayBreak (Ok (quote s)))
+  inner : (t : Bool) → within s deepest 0 ≡ t → unless t Nesting (unless (contained s deepest 0) StrayBreak (Ok (quote s))) ≡ unless t Nesting (unless (summary s 0 .contained) StrayBreak (Ok (summary s 0 .quote)))
+  inner true w =
+      ap (λ t. unless t StrayBreak (Ok (quote s))) (contained-summary s naming deepest 0 w)
+      ∙ ap (λ q. unless (summary s 0 .contained) StrayBreak (Ok q)) (quote-summary s naming deepest 0 w)
+  inner false w = refl
 
-  to-asked : examined s ≡ asked
-  unfolding asked
-  to-asked =
-      cond-true (inOrder s) _ (Err Blocks) order ∙ cond-true (allSound s) _ (Err Rows) rows ∙ cond-true (namedOnce s) _ (Err Naming) naming
-
-  pub too-deep : deepest < summary s 0 .height → Err Nesting ≡ examined s
-  unfolding asked
-  too-deep h = sym (to-asked ∙ cond-false (within s deepest 0) _ (Err Nesting) (within-height s naming deepest 0 ∙ lt-leb (summary s 0 .height) deepest h))
-
-  fits-in : summary s 0 .height ≤ deepest → within s deepest 0 ≡ true
-  fits-in h = within-height s naming deepest 0 ∙ le-leb (summary s 0 .height) deepest h
-
-  pub strays : summary s 0 .height ≤ deepest → summary s 0 .contained ≡ false → Err StrayBreak ≡ examined s
-  unfolding asked
-  strays h e =
-      sym (to-asked ∙ cond-true (within s deepest 0) _ (Err Nesting) (fits-in h)
-      ∙ cond-false (contained s deepest 0) _ (Err StrayBreak) (contained-summary s naming deepest 0 (fits-in h) ∙ e))
-
-  pub passes : summary s 0 .height ≤ deepest → summary s 0 .contained ≡ true → Ok (summary s 0 .quote) ≡ examined s
-  unfolding asked
-  passes h e =
-      ap answer (sym (quote-summary s naming deepest 0 (fits-in h)))
-      ∙ sym (to-asked ∙ cond-true (within s deepest 0) _ (Err Nesting) (fits-in h)
-      ∙ cond-true (contained s deepest 0) _ (Err StrayBreak) (contained-summary s naming deepest 0 (fits-in h) ∙ e))
+  pub settles : settled (summary s 0) ≡ examined s
+  settles =
+      sym (cond-true (inOrder s) _ (Err Blocks) order ∙ cond-true (allSound s) _ (Err Rows) rows ∙ cond-true (namedOnce s) _ (Err Naming) naming
+      ∙ inner (within s deepest 0) refl
+      ∙ ap (λ t. unless t Nesting (unless (summary s 0 .contained) StrayBreak (Ok (summary s 0 .quote)))) (within-height s naming deepest 0))
 
 -- a test that an answer went through
 ok-unless : (b : Bool) (r : Refusal) (a : Result (Option ℕ) Refusal) → isOk (unless b r a) ≡ true → (b ≡ true) × (isOk a ≡ true)
@@ -91,5 +72,5 @@ header-refused false false l a e p = cc
 
 -- the empty rule is lawful
 pub empty-lawful : Lawful emptyImage
-unfolding block stmtAt stmt exprAt within contained blockQuote
+unfolding block stmtAt exprAt within contained blockQuote
 empty-lawful = refl

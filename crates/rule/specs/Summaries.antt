@@ -2,15 +2,21 @@
 use mathlib.Core.Bool.{Bool, true, _&&_}
 use mathlib.Core.List.{List}
 use Prim.Native.Nat.{ℕ, zero, suc, _+_, max, _≤_, _<_}
+use lib.Dec.{leb}
 use lib.ListN.{getD}
 use Rattle.std.specs.declared.option.Option.{Option}
 use Rattle.std.specs.declared.option.Option.the-variants.{Some, None}
+use Rattle.std.specs.declared.result.Result.{Result}
+use Rattle.std.specs.declared.result.Result.the-variants.{Ok}
+use Rattle.image.specs.declared.refusal.Refusal.{Refusal}
+use Rattle.image.specs.declared.refusal.Refusal.the-variants.{Nesting, StrayBreak}
 use Rattle.image.specs.declared.rows.Stmt.{Stmt}
 use Rattle.image.specs.Bytes.{sumBelow}
 use Rattle.image.specs.Layouts.{layoutOf}
 use Rattle.image.specs.Rows.{block, stmt, parts}
 use Rattle.rule.specs.declared.summary.Summary.{Summary}
-use Rattle.rule.specs.Tree.{stmtIn, named, holdsBreaks, stmtQuote, plus}
+use Rattle.rule.specs.Checked.{unless}
+use Rattle.rule.specs.Tree.{deepest, stmtIn, named, holdsBreaks, stmtQuote, plus}
 
 -- of an empty reference, which is no level
 abbrev pub absent : Summary
@@ -68,3 +74,7 @@ cost s f b k = 3 + value (named absent f (parts (stmtIn s b k) .body) .quote) + 
 pub record Room (s : List ℕ) (f : ℕ → Summary) (b : ℕ) : Type 0 where
   pub heights : (n : ℕ) → f n .height ≤ 257
   pub costs : sumBelow (cost s f b) (block s b .count) < 4294967296
+
+-- the answer for a rule by the summary of its block 0
+abbrev pub settled : Summary → Result (Option ℕ) Refusal
+settled x = unless (leb (x .height) deepest) Nesting (unless (x .contained) StrayBreak (Ok (x .quote)))

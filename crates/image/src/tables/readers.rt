@@ -52,7 +52,8 @@ impl<'a> Tables<'a> {
     pub fn layout(&self) -> Layout
         ensures { λ r. ⌜ r ≡ layoutOf (now (now (self .entry) .image)) ⌝ }
     {
-        self.layout
+        let Tables { layout, .. } = *self;
+        layout
     }
 
     /// Block row `i`; an empty block past the table.
@@ -99,6 +100,6 @@ impl<'a> Tables<'a> {
     pub fn text(&self) -> &'a [u8]
         ensures { λ r. ⌜ now r ≡ textOf (now (now (self .entry) .image)) ⌝ }
     {
-        &self.image[self.layout.text_at..]
+        self.image.split_at(self.layout.text_at).1
     }
 }

@@ -14,9 +14,8 @@ impl<'a> CheckedRule<'a> {
     pub fn empty() -> CheckedRule<'a>
         ensures { λ r. ⌜ now (r .tables .image) ≡ emptyImage ⌝ }
     {
-        CheckedRule {
-            tables: Tables::empty(),
-        }
+        let tables = Tables::empty();
+        CheckedRule { tables }
     }
 
     /// Checks an image, and fills `place` with its rule if it passes. The answer is the rule's quote, which a rule with a
@@ -34,16 +33,18 @@ impl<'a> CheckedRule<'a> {
 
     /// The rule's tables, through which its rows are read.
     pub fn tables(&self) -> Tables<'a>
-        ensures value { λ r. ⌜ r ≡ now (self .entry) .tables ⌝ }
-        ensures named_once { λ r. ⌜ EachNamedOnce (now (r .image)) ⌝ }
-        ensures nested { λ r. ⌜ NestsNoDeeper (now (r .image)) ⌝ }
+        ensures { λ r. ⌜ r ≡ now (self .entry) .tables ⌝ }
     {
-        self.tables
+        let CheckedRule { tables, .. } = *self;
+        tables
     }
 
-    /// What a run of the rule counts at most; none if the rule has a loop.
+    /// The sum of what the rule's statements count, over the tree of its blocks; none if the rule has a loop. The sum is
+    /// taken once over each block, since each is named once and by a lower one.
     pub fn quote(&self) -> Option<u32>
         ensures value { λ r. ⌜ r ≡ quote (now (now (self .entry) .tables .image)) ⌝ }
+        ensures named_once { λ _. ⌜ EachNamedOnce (now (now (self .entry) .tables .image)) ⌝ }
+        ensures nested { λ _. ⌜ NestsNoDeeper (now (now (self .entry) .tables .image)) ⌝ }
         ensures present { λ _. ⌜ QuotedIfNoLoop (now (now (self .entry) .tables .image)) ⌝ }
         ensures bound { λ _. ⌜ AtMostThrice (now (now (self .entry) .tables .image)) ⌝ }
     {

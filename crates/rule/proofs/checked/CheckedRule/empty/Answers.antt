@@ -4,4 +4,4 @@ use Rattle.rule.proofs.Verdicts.{empty-lawful}
 use Rattle.rule.proofs.checked.CheckedRule.empty.Needs as need
 
 pub ghost-result : need.ghost-result
-ghost-result c = (subst Lawful (sym (c .empty .ensures)) empty-lawful, tt)
+ghost-result c = (subst Lawful (sym (c .empty-tables .ensures)) empty-lawful, tt)
