@@ -1,0 +1,2 @@
+pub mod LastRow
+mod Blanking
