@@ -59,15 +59,17 @@ module _ {R : Type 0} (f : R → List ℕ) (name : List ℕ) where
   found i b [] = inl (refl, λ j h. omega (arith, h .0))
   found i b (x ∷ xs) =
       elim (found (i + 1) (cond (sameBytes (f x) name) (Some i) b) xs) [
-        inr later ↦
-          let at : (i + 1) + later .0 ≡ i + suc (later .0) = omega arith in
-          inr (suc (later .0), later .1 ∙ ap (λ k. Some k) at, ((omega (arith, later .2 .0 .0), later .2 .0 .1), behind (later .0) (later .2 .1)))
-      | inl none ↦
-          elim (cases-bool (sameBytes (f x) name)) [
-            inl yes′ ↦
-              let at : i ≡ i + 0 = omega arith in
-              inr (0, none .0 ∙ ap (λ t. cond t (Some i) b) yes′ ∙ ap (λ k. Some k) at, ((omega arith, λ d. same x yes′), first (none .1)))
-          | inr no′ ↦ inl (none .0 ∙ ap (λ t. cond t (Some i) b) no′, nowhere (other x no′) (none .1)) ] ]
+        | inr later ↦
+            let at : (i + 1) + later .0 ≡ i + suc (later .0) = omega arith in
+            inr (suc (later .0), later .1 ∙ ap (λ k. Some k) at, ((omega (arith, later .2 .0 .0), later .2 .0 .1), behind (later .0) (later .2 .1)))
+        | inl none ↦
+            elim (cases-bool (sameBytes (f x) name)) [
+              | inl yes′ ↦
+                  let at : i ≡ i + 0 = omega arith in
+                  inr (0, none .0 ∙ ap (λ t. cond t (Some i) b) yes′ ∙ ap (λ k. Some k) at, ((omega arith, λ d. same x yes′), first (none .1)))
+              | inr no′ ↦ inl (none .0 ∙ ap (λ t. cond t (Some i) b) no′, nowhere (other x no′) (none .1))
+            ]
+      ]
     where
       behind : (k : ℕ) → ((j : ℕ) → k < j → HasName f name xs j → ⊥) → (j : ℕ) → suc k < j → HasName f name (x ∷ xs) j → ⊥
       behind k h zero lt n = omega arith
@@ -86,7 +88,8 @@ module _ {R : Type 0} (f : R → List ℕ) (name : List ℕ) where
   unfolding LastAt
   last-named xs r e =
       subst (LastNamed f name xs) (sym e)
-          (elim (found 0 None xs) [
-            inl none ↦ subst (LastNamed f name xs) (sym (none .0)) (none .1)
-          | inr some ↦ let at : some .0 ≡ 0 + some .0 = omega arith in
-              subst (LastNamed f name xs) (ap (λ k. Some k) at ∙ sym (some .1)) (some .2) ])
+      (elim (found 0 None xs) [
+        | inl none ↦ subst (LastNamed f name xs) (sym (none .0)) (none .1)
+        | inr some ↦ let at : some .0 ≡ 0 + some .0 = omega arith in
+            subst (LastNamed f name xs) (ap (λ k. Some k) at ∙ sym (some .1)) (some .2)
+      ])

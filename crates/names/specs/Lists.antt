@@ -10,10 +10,7 @@ use Rattle.std.specs.declared.option.Option.{Option}
 use Rattle.std.specs.declared.option.Option.the-variants.{Some, None}
 use Rattle.rows.specs.declared.place.Place.{Place}
 use Rattle.rows.specs.Places.{textOf}
-
--- the rows in use; a number past the rows counts as all of them
-abbrev pub inUse : {R : Type 0} → List R → ℕ → List R
-inUse rows used = take (min used (length rows)) rows
+use Rattle.rows.specs.Rows.{inUse}
 
 -- one row more, behind those in use, where there is room
 abbrev pub appended : {R : Type 0} → List R → ℕ → R → List R

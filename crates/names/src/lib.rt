@@ -3,7 +3,8 @@
 ghost use mathlib.Core.Path.{_≡_};
 ghost use Prim.Native.Nat.{ℕ, _<_, _≤_};
 ghost use lib.ListN.{length, take};
-ghost use Rattle.names.specs.Lists.{inUse, appended, lengthened, lastNamed, LastNamed, nameIn, wiped, rewound, shortened};
+ghost use Rattle.rows.specs.Rows.{inUse};
+ghost use Rattle.names.specs.Lists.{appended, lengthened, lastNamed, LastNamed, nameIn, wiped, rewound, shortened};
 use rows::Blank;
 use rows::Named;
 use rows::Texts;

@@ -1,5 +1,7 @@
 -- rows, made and changed by a few operations only
-use Prim.Native.Nat.{ℕ}
+use mathlib.Core.List.{List}
+use Prim.Native.Nat.{ℕ, min}
+use lib.ListN.{length, take}
 use Rattle.rows.specs.declared.place.Place.{Place}
 use Rattle.rows.specs.declared.row.Access.{Access}
 use Rattle.rows.specs.declared.row.Access.the-variants.{ReadWrite, Constant}
@@ -28,3 +30,7 @@ import p m = record { place = p; «module» = m }
 -- no name, module 0
 abbrev pub blankImport : ImportRow
 blankImport = import noPlace 0
+
+-- the rows in use; a number past the rows counts as all of them
+abbrev pub inUse : {R : Type 0} → List R → ℕ → List R
+inUse rows used = take (min used (length rows)) rows

@@ -37,7 +37,11 @@ pub trait Unital: Sized {
 }
 
 /// The place that stands for no name.
-const NO_PLACE: Place = Place { source: Source::Rule, offset: 0, length: 0 };
+const NO_PLACE: Place = Place {
+    source: Source::Rule,
+    offset: 0,
+    length: 0,
+};
 
 /// A variable: its name, whether it may be assigned to, and its value.
 #[derive(Clone, Copy)]
@@ -51,7 +55,11 @@ impl<V: Copy> VarRow<V> {
     pub fn new(place: Place, access: Access, value: V) -> VarRow<V>
         ensures { λ r. ⌜ r ≡ variable place access value ⌝ }
     {
-        VarRow { place, access, value }
+        VarRow {
+            place,
+            access,
+            value,
+        }
     }
 
     /// The same variable with another value.
@@ -65,7 +73,11 @@ impl<V: Copy> VarRow<V> {
     pub fn redeclared(self, access: Access, value: V) -> VarRow<V>
         ensures { λ r. ⌜ r ≡ redeclared self access value ⌝ }
     {
-        VarRow { access, value, ..self }
+        VarRow {
+            access,
+            value,
+            ..self
+        }
     }
 
     pub fn access(&self) -> Access
@@ -93,7 +105,11 @@ pub impl<V: Unital> Blank for VarRow<V> as VarRowBlank {
     ghost blank = { blankVariable (V·Unital .unit) };
 
     fn blank() -> VarRow<V> {
-        VarRow { place: NO_PLACE, access: Access::ReadWrite, value: V::unit() }
+        VarRow {
+            place: NO_PLACE,
+            access: Access::ReadWrite,
+            value: V::unit(),
+        }
     }
 }
 
@@ -130,6 +146,9 @@ pub impl Blank for ImportRow as ImportRowBlank {
     ghost blank = { blankImport };
 
     fn blank() -> ImportRow {
-        ImportRow { place: NO_PLACE, module: 0 }
+        ImportRow {
+            place: NO_PLACE,
+            module: 0,
+        }
     }
 }

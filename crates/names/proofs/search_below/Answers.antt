@@ -12,8 +12,8 @@ pub returns-then-eq : need.returns-then-eq
 returns-then-eq g c =
     let f = nameIn (g .R·Named .place) (now (c .args .texts .rule)) (now (c .args .texts .site)) in
     let s = last-step f (c .args .name .now) (c .args .rows .now) _ (c .loop-i .i) (c .index-rows-i .result) (c .text .result .now) (c .eq .result) (omega arith) (omega arith)
-        (c .index-rows-i .is) (c .text .ensures ∙ ap (λ p. textOf p (now (c .args .texts .rule)) (now (c .args .texts .site))) (c .place .ensures))
-        (matches-decides _ _ _ (c .eq .ensures)) (c .loop-i .inv .1) in
+    (c .index-rows-i .is) (c .text .ensures ∙ ap (λ p. textOf p (now (c .args .texts .rule)) (now (c .args .texts .site))) (c .place .ensures))
+    (matches-decides _ _ _ (c .eq .ensures)) (c .loop-i .inv .1) in
     let value = sym (rw (c .if-eq .taken) at s) in
     record { value = value; last = last-named f (c .args .name .now) (take (c .args .n) (c .args .rows .now)) _ value }
 
@@ -21,8 +21,8 @@ pub loop-i-again : need.loop-i-again
 loop-i-again g c =
     let f = nameIn (g .R·Named .place) (now (c .args .texts .rule)) (now (c .args .texts .site)) in
     let s = last-step f (c .args .name .now) (c .args .rows .now) _ (c .loop-i .i) (c .index-rows-i .result) (c .text .result .now) (c .eq .result) (omega arith) (omega arith)
-        (c .index-rows-i .is) (c .text .ensures ∙ ap (λ p. textOf p (now (c .args .texts .rule)) (now (c .args .texts .site))) (c .place .ensures))
-        (matches-decides _ _ _ (c .eq .ensures)) (c .loop-i .inv .1) in
+    (c .index-rows-i .is) (c .text .ensures ∙ ap (λ p. textOf p (now (c .args .texts .rule)) (now (c .args .texts .site))) (c .place .ensures))
+    (matches-decides _ _ _ (c .eq .ensures)) (c .loop-i .inv .1) in
     (omega arith, rw (c .if-eq .left) at s)
 
 pub returns : need.returns
