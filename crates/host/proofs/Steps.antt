@@ -5,7 +5,7 @@ use Prim.Native.Nat.{ℕ, _≤_, _<_, min, max}
 use native.Mathlib.Omega.{arith}
 use lib.ListN.{length, take, drop, take-append-drop}
 use Rattle.std.proofs.shelf.Lists.{length-take-le, take-all}
-use Rattle.rows.specs.declared.row.VarRow.{VarRow}
+use Rattle.rows.specs.declared.variable.VarRow.{VarRow}
 use Rattle.rows.specs.Rows.{inUse}
 use Rattle.host.specs.Meaning.{Step, Grown, Leaves, over, placeOf, accessOf}
 
@@ -24,7 +24,8 @@ grown-none limit rows = record {
   limited = omega arith;
   places = ap (map placeOf) (take-all (length rows) rows (omega arith));
   accesses = ap (map accessOf) (take-all (length rows) rows (omega arith));
-  added = λ i le lt d. absurd (omega arith) }
+  added = λ i le lt d. absurd (omega arith);
+}
 
 -- a call that leaves the rows as they are, and answers how many are in use
 pub leaves-same : {S V A : Type 0} (e : Step S V A) (vars : List (VarRow V)) (used used′ : ℕ) (s′ : S) (a : A) →
@@ -33,4 +34,5 @@ leaves-same e vars used used′ s′ a same count st an = record {
   state = st;
   used = count ∙ sym (ap length same ∙ length-in-use vars used);
   rows = over-none vars used ∙ ap (λ r. over r vars) (sym same);
-  answer = an }
+  answer = an;
+}

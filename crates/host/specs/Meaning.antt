@@ -8,9 +8,9 @@ use lib.ListN.{length, getD, take, drop}
 use Rattle.std.specs.declared.option.Option.{Option}
 use Rattle.std.specs.declared.option.Option.the-variants.{Some}
 use Rattle.rows.specs.declared.place.Place.{Place}
-use Rattle.rows.specs.declared.row.Access.{Access}
-use Rattle.rows.specs.declared.row.Access.the-variants.{ReadWrite}
-use Rattle.rows.specs.declared.row.VarRow.{VarRow}
+use Rattle.rows.specs.declared.variable.Access.{Access}
+use Rattle.rows.specs.declared.variable.Access.the-variants.{ReadWrite}
+use Rattle.rows.specs.declared.variable.VarRow.{VarRow}
 use Rattle.rows.specs.Rows.{inUse}
 use Rattle.host.specs.declared.answers.Allowed.{Allowed}
 use Rattle.host.specs.declared.answers.Applied.{Applied}

@@ -3,10 +3,10 @@ use mathlib.Core.List.{List}
 use Prim.Native.Nat.{ℕ, min}
 use lib.ListN.{length, take}
 use Rattle.rows.specs.declared.place.Place.{Place}
-use Rattle.rows.specs.declared.row.Access.{Access}
-use Rattle.rows.specs.declared.row.Access.the-variants.{ReadWrite, Constant}
-use Rattle.rows.specs.declared.row.ImportRow.{ImportRow}
-use Rattle.rows.specs.declared.row.VarRow.{VarRow}
+use Rattle.rows.specs.declared.variable.Access.{Access}
+use Rattle.rows.specs.declared.variable.Access.the-variants.{ReadWrite, Constant}
+use Rattle.rows.specs.declared.import.ImportRow.{ImportRow}
+use Rattle.rows.specs.declared.variable.VarRow.{VarRow}
 use Rattle.rows.specs.Places.{noPlace}
 
 abbrev pub variable : {V : Type 0} → Place → Access → V → VarRow V

@@ -16,6 +16,13 @@ pub struct Place {
     pub length: u32,
 }
 
+/// The place that stands for no name.
+pub(crate) const NO_PLACE: Place = Place {
+    source: Source::Rule,
+    offset: 0,
+    length: 0,
+};
+
 /// The two texts that names are parts of.
 #[derive(Clone, Copy)]
 pub struct Texts<'a> {
