@@ -22,12 +22,12 @@ pub struct VarRow<V> {
 }
 
 impl<V: Copy> VarRow<V> {
-    pub fn new(place: Place, access: Access, value: V) -> VarRow<V>
-        ensures { λ r. ⌜ r ≡ variable place access value ⌝ }
+    pub fn new(place: Place, mode: Access, value: V) -> VarRow<V>
+        ensures { λ r. ⌜ r ≡ variable place mode value ⌝ }
     {
         VarRow {
             place,
-            access,
+            access: mode,
             value,
         }
     }
@@ -43,11 +43,8 @@ impl<V: Copy> VarRow<V> {
     pub fn redeclared(self, access: Access, value: V) -> VarRow<V>
         ensures { λ r. ⌜ r ≡ redeclared self access value ⌝ }
     {
-        VarRow {
-            access,
-            value,
-            ..self
-        }
+        let row = self.with_value(value);
+        VarRow { access, ..row }
     }
 
     pub fn access(&self) -> Access

@@ -1,0 +1,9 @@
+mod Every
+mod Counts
+mod Limits
+mod Rows
+mod Logs
+mod Names
+mod Rounds
+mod EachKind
+mod Sessions
