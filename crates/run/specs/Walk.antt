@@ -122,9 +122,9 @@ module _ {S V : Type 0} (m : HostMeaning S V) (set′ : Setting) where
   byIndex s r = cond (leb r (s .names)) (rowAt s (s .names - r)) beyond
 
   -- by index, if there is one and the mark is off; else by name
-  abbrev pub search : State S V → Place → Option ℕ → Found V
-  search s p None = byName s (named s p)
-  search s p (Some r) = cond (s .mark) (byName s (named s p)) (byIndex s r)
+  abbrev pub sought : State S V → Place → Option ℕ → Found V
+  sought s p None = byName s (named s p)
+  sought s p (Some r) = cond (s .mark) (byName s (named s p)) (byIndex s r)
 
   abbrev pub changed : State S V → ℕ → (VarRow V → VarRow V) → State S V
   changed s i f = withRows (set (s .vars) i (f (getD (s .vars) i (blankVariable (m .unit))))) (s .names) s
@@ -164,7 +164,7 @@ module _ {S V : Type 0} (m : HostMeaning S V) (set′ : Setting) where
       hosted allowing s (m .allow (s .host) (record { name = p; access = a; level = s .level; present = isSome (named s p) }) (sees s))
   perform (room k) s = silent (leb (s .names + k) (most s)) s
   perform (declare r) s = push letting r s
-  perform (find p i) s = silent (search s p i) s
+  perform (find p i) s = silent (sought s p i) s
   perform (store i v) s = silent tt (changed s i (λ r. revalued r v))
   perform (redeclare i a v) s = silent tt (changed s i (λ r. redeclared r a v))
   perform another s = silent (ltb (s .loaded) (set′ .modules)) s
