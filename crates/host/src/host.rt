@@ -20,8 +20,6 @@ pub trait Host {
 
     ghost laws: { HostLaws meaning };
 
-    law blank: { meaning .unit ≡ Value·Unital .unit };
-
     /// The value of the expression under a code, and how many variables there are then.
     fn evaluate(
         &mut self,
@@ -51,7 +49,8 @@ pub trait Host {
         ensures { λ r. ⌜ r ≡ meaning .binary op left right ⌝ };
 
     fn make_unit(&self) -> Self::Value
-        ensures { λ r. ⌜ r ≡ meaning .unit ⌝ };
+        ensures unit { λ r. ⌜ r ≡ meaning .unit ⌝ }
+        ensures blank { λ r. ⌜ r ≡ Value·Unital .unit ⌝ };
 
     fn make_truth(&self, truth: bool) -> Self::Value
         ensures { λ r. ⌜ r ≡ meaning .makeTruth truth ⌝ };

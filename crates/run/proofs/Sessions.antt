@@ -198,6 +198,6 @@ module _ {S V W : Type 0} (m : HostMeaning S V) (laws : HostLaws m) (idle : W) (
         go e f (inr same′) h = inr (same′, subst (λ (x : Entry S V W). Agree (calls m idle resolver t low cs (e .now)) (calls m idle resolver t high cs (x .now))) same′ (h (e .now)))
 
 pub promise : {S V : Type 0} (W : Type 0) (m : HostMeaning S V) (laws : HostLaws m) (resolver : ℕ → Resolved) → Promise W m resolver
-promise W m laws resolver idle t l host vars imports working law good enough high le cs =
+promise W m laws resolver idle t l host vars imports working law open′ high le cs =
     let u = opened m idle resolver t l host vars imports working in
     (each-fine m laws idle resolver t (t .operations) cs u (omega arith), agree m laws idle resolver t (t .operations) high le cs u)

@@ -4,7 +4,7 @@ use mathlib.Core.List.{List, [], _∷_, _++_, map}
 use mathlib.Core.Logic.{_⊎_}
 use mathlib.Core.Path.{_≡_}
 use Prim.Native.Nat.{ℕ, _≤_}
-use Rattle.std.specs.declared.option.Option.the-variants.{Some}
+use Rattle.std.specs.declared.option.Option.the-variants.{Some, None}
 use Rattle.std.specs.declared.result.Result.the-variants.{Ok}
 use Rattle.rule.specs.Checked.{Lawful, checked}
 use Rattle.rows.specs.declared.import.ImportRow.{ImportRow}
@@ -16,7 +16,7 @@ use Rattle.resolve.specs.declared.resolver.Resolved.{Resolved}
 use Rattle.outcome.specs.declared.Outcome.{Outcome}
 use Rattle.outcome.specs.Faults.{outcomeNumber}
 use Rattle.run.specs.Says.{After, appendedAt, BlocksKeep}
-use Rattle.run.specs.Session.{Lent, Call, Answer, refused, made, got, ran, Terms, limited, World, Entry, short, calls, opened}
+use Rattle.run.specs.Session.{Lent, Call, Answer, refused, made, got, ran, Terms, World, Entry, calls, opened, openRefusal}
 use Rattle.run.specs.Walk.{Event}
 use lib.Dec.{eqb}
 
@@ -72,7 +72,7 @@ module _ {S V W : Type 0} where
 abbrev pub Promise : {S V : Type 0} (W : Type 0) → HostMeaning S V → (ℕ → Resolved) → Type 0
 Promise {S} {V} W m resolver =
     (idle : W) (t : Terms) (l : Lent) (host : S) (vars : List (VarRow V)) (imports : List ImportRow) (working : List W) →
-    Lawful (t .rule) → limited t ≡ true → short m idle resolver t l (opened m idle resolver t l host vars imports working) ≡ false →
+    Lawful (t .rule) → openRefusal m idle resolver t l host vars imports working ≡ None →
     (high : ℕ) → t .operations ≤ high → (cs : List (Lent × Call V)) →
     let u = opened m idle resolver t l host vars imports working in
     let es = calls m idle resolver t (t .operations) cs u in

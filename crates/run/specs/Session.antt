@@ -203,3 +203,10 @@ module _ {S V W : Type 0} (m : HostMeaning S V) (idle : W) (resolver : ℕ → R
     imports = laid (l .imports) (replicate (length (take (l .imports) imports)) blankImport) imports;
     working = laid (l .working) (replicate (length (take (l .working) working)) idle) working;
   }
+
+  -- why opening is refused, if it is: a limit out of its range, or too few rows
+  abbrev pub openRefusal : Lent → S → List (VarRow V) → List ImportRow → List W → Option SessionRefusal
+  openRefusal l host vars imports working =
+      cond (limited t)
+      (cond (short l (record { names = 0; bound = 0; host = host; vars = vars; imports = imports; working = working })) (Some Rows) None)
+      (Some Limits)
