@@ -217,11 +217,18 @@ module _ {S V : Type 0} (m : HostMeaning S V) (to : ScriptValue → V) (from : V
   abbrev pub refusal : S → Sample → Option ℕ
   refusal host s = numbered (openRefusal m tt (resolver s) (terms s) (s .opening) host vars imports working)
 
+abbrev pub siteOver : List SiteExpr → TableHost (List SiteExpr)
+siteOver exprs = record { table = exprs }
+
+abbrev pub scriptOver : List EvalEntry → List AllowEntry → Script
+scriptOver evals allows = record { evals = evals; allows = allows; evaluations = 0; declarations = 0 }
+
+abbrev pub playedBy : {S V : Type 0} → HostMeaning S V → (ScriptValue → V) → (V → ScriptValue) → S → Sample → List Shown
+playedBy m to from host s = session m to from (refusal m to from host s) host s
+
 abbrev pub played : HostOf → Sample → List Shown
-played (site exprs) s = let host = record { table = exprs } in session plainSite toSite fromSite (refusal plainSite toSite fromSite host s) host s
-played (scripted evals allows) s =
-    let host = record { evals = evals; allows = allows; evaluations = 0; declarations = 0 } in
-    session plainScript same same (refusal plainScript same same host s) host s
+played (site exprs) s = playedBy plainSite toSite fromSite (siteOver exprs) s
+played (scripted evals allows) s = playedBy plainScript same same (scriptOver evals allows) s
 
 -- every sample comes out as its row says
 abbrev pub Stands : List Sample → Type 0
