@@ -3,7 +3,7 @@ use mathlib.Core.Bool.{Bool, true, false}
 use mathlib.Core.List.{List, [], _∷_, _++_, map}
 use mathlib.Core.Logic.{_⊎_}
 use mathlib.Core.Path.{_≡_}
-use Prim.Native.Nat.{ℕ, _≤_}
+use Prim.Native.Nat.{ℕ, _≤_, _<_}
 use Rattle.std.specs.declared.option.Option.the-variants.{Some, None}
 use Rattle.std.specs.declared.result.Result.the-variants.{Ok}
 use Rattle.rule.specs.Checked.{Lawful, checked}
@@ -16,8 +16,9 @@ use Rattle.resolve.specs.declared.resolver.Resolved.{Resolved}
 use Rattle.outcome.specs.declared.Outcome.{Outcome}
 use Rattle.outcome.specs.Faults.{outcomeNumber}
 use Rattle.run.specs.Says.{After, appendedAt, BlocksKeep}
-use Rattle.run.specs.Session.{Lent, Call, Answer, refused, made, got, ran, Terms, World, Entry, calls, opened, openRefusal}
-use Rattle.run.specs.Walk.{Event}
+use Rattle.run.specs.Session.{manyRounds, Lent, Call, Answer, refused, made, got, ran, Terms, World, Entry, calls, opened, openRefusal}
+use Rattle.run.specs.Statements.{whole}
+use Rattle.run.specs.Walk.{Event, Setting, State, walk}
 use lib.Dec.{eqb}
 
 -- the names of a session: the places of the variables in use
@@ -77,3 +78,10 @@ Promise {S} {V} W m resolver =
     let u = opened m idle resolver t l host vars imports working in
     let es = calls m idle resolver t (t .operations) cs u in
     Each t (t .operations) es × Agree es (calls m idle resolver t high cs u)
+
+-- Every run ends: under any limit that a session may have, it is the same run however many rounds past that limit its loops
+-- are looked at for.
+abbrev pub EveryRunEnds : {S V : Type 0} → HostMeaning S V → (ℕ → Resolved) → Type 0
+EveryRunEnds {S} {V} m resolver =
+    (rule : List ℕ) (w : Setting) (limit rounds : ℕ) (s : State S V) → limit < manyRounds → limit < rounds → s .count ≤ limit →
+    walk m w limit rounds (whole m resolver rule) s ≡ walk m w limit manyRounds (whole m resolver rule) s
