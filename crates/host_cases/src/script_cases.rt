@@ -37,13 +37,159 @@ const FAULT: Fault = Fault {
     catchable: true,
 };
 
-fn append(n: i64) -> Effect {
-    Effect::Append(PLACE, ScriptValue::Number(n))
-}
+const NOTHING: Effect = Effect::None;
 
-fn set(k: u16, n: i64) -> Effect {
-    Effect::Set(k, ScriptValue::Number(n))
-}
+const APPEND_8: Effect = Effect::Append(PLACE, ScriptValue::Number(8));
+
+const APPEND_9: Effect = Effect::Append(PLACE, ScriptValue::Number(9));
+
+const SET_0: Effect = Effect::Set(0, ScriptValue::Number(5));
+
+const SET_1: Effect = Effect::Set(1, ScriptValue::Number(5));
+
+const SET_2: Effect = Effect::Set(2, ScriptValue::Number(5));
+
+const SET_3: Effect = Effect::Set(3, ScriptValue::Number(5));
+
+const SET_AGAIN: Effect = Effect::Set(1, ScriptValue::Number(6));
+
+const SIX: ScriptValue = ScriptValue::Number(6);
+
+const LAST: EvalAnswer = EvalAnswer::Row(1);
+
+/// Evaluations: how many rows of four are in use, the limit, two effects and the answer.
+const EVALS: [(&str, usize, usize, Effect, Effect, EvalAnswer); 29] = [
+    ("value", 1, 3, NOTHING, NOTHING, EvalAnswer::Value(SIX)),
+    ("fault", 1, 3, NOTHING, NOTHING, EvalAnswer::Fault(FAULT)),
+    ("exit", 1, 3, NOTHING, NOTHING, EvalAnswer::Exit(SIX)),
+    ("code", 1, 3, NOTHING, NOTHING, EvalAnswer::Code),
+    ("mark", 1, 3, NOTHING, NOTHING, EvalAnswer::Mark),
+    ("names", 1, 3, NOTHING, NOTHING, EvalAnswer::Names),
+    (
+        "names past the rows",
+        9,
+        3,
+        NOTHING,
+        NOTHING,
+        EvalAnswer::Names,
+    ),
+    ("last row", 1, 3, NOTHING, NOTHING, LAST),
+    ("row 0", 1, 3, NOTHING, NOTHING, EvalAnswer::Row(0)),
+    ("row 2 of 1", 1, 3, NOTHING, NOTHING, EvalAnswer::Row(2)),
+    ("append", 1, 3, APPEND_8, NOTHING, EvalAnswer::Names),
+    ("append second", 1, 3, NOTHING, APPEND_8, EvalAnswer::Names),
+    ("append twice", 1, 3, APPEND_8, APPEND_9, EvalAnswer::Names),
+    (
+        "append to the limit",
+        2,
+        3,
+        APPEND_8,
+        APPEND_9,
+        EvalAnswer::Names,
+    ),
+    (
+        "append at the limit",
+        3,
+        3,
+        APPEND_8,
+        APPEND_9,
+        EvalAnswer::Names,
+    ),
+    (
+        "append past the limit",
+        3,
+        1,
+        APPEND_8,
+        APPEND_9,
+        EvalAnswer::Names,
+    ),
+    (
+        "append to all rows",
+        3,
+        100,
+        APPEND_8,
+        APPEND_9,
+        EvalAnswer::Names,
+    ),
+    (
+        "append past the rows",
+        9,
+        100,
+        APPEND_8,
+        NOTHING,
+        EvalAnswer::Names,
+    ),
+    (
+        "append and read",
+        1,
+        3,
+        APPEND_8,
+        APPEND_9,
+        EvalAnswer::Row(2),
+    ),
+    ("set a constant", 1, 3, SET_1, NOTHING, LAST),
+    ("set 0", 1, 3, SET_0, NOTHING, LAST),
+    ("set 2 of 1", 1, 3, SET_2, NOTHING, LAST),
+    ("set 2 of 3", 3, 3, SET_2, NOTHING, LAST),
+    ("set 3 of 3", 3, 3, SET_3, NOTHING, EvalAnswer::Row(3)),
+    ("set what was appended", 1, 3, APPEND_8, SET_1, LAST),
+    ("set below what was appended", 1, 3, APPEND_8, SET_2, LAST),
+    ("set and append", 1, 3, SET_1, APPEND_8, LAST),
+    ("set twice", 1, 3, SET_1, SET_AGAIN, LAST),
+    ("set past the rows", 9, 3, SET_1, NOTHING, LAST),
+];
+
+/// Declarations at level 2, the name present: an effect, the answer, and the access.
+const ALLOWS: [(&str, Effect, AllowAnswer, Access); 11] = [
+    ("yes", NOTHING, AllowAnswer::Yes, Access::ReadWrite),
+    ("no", NOTHING, AllowAnswer::No, Access::ReadWrite),
+    (
+        "fault",
+        NOTHING,
+        AllowAnswer::Fault(FAULT),
+        Access::ReadWrite,
+    ),
+    ("present", NOTHING, AllowAnswer::Present, Access::ReadWrite),
+    ("constant", NOTHING, AllowAnswer::Constant, Access::Constant),
+    (
+        "constant of another",
+        NOTHING,
+        AllowAnswer::Constant,
+        Access::ReadWrite,
+    ),
+    ("level 2", NOTHING, AllowAnswer::Level(2), Access::ReadWrite),
+    ("level 1", NOTHING, AllowAnswer::Level(1), Access::ReadWrite),
+    ("level 3", NOTHING, AllowAnswer::Level(3), Access::ReadWrite),
+    ("and append", APPEND_8, AllowAnswer::Yes, Access::ReadWrite),
+    ("and set", SET_1, AllowAnswer::No, Access::ReadWrite),
+];
+
+/// A list of two entries for evaluations, and one for declarations.
+const TWO_EVALS: [EvalEntry; 2] = [
+    EvalEntry {
+        first: NOTHING,
+        second: NOTHING,
+        answer: EvalAnswer::Value(ScriptValue::Number(9)),
+    },
+    EvalEntry {
+        first: NOTHING,
+        second: NOTHING,
+        answer: EvalAnswer::Code,
+    },
+];
+
+const TWO_ALLOWS: [AllowEntry; 2] = [
+    AllowEntry {
+        first: NOTHING,
+        second: NOTHING,
+        answer: AllowAnswer::Yes,
+    },
+    AllowEntry {
+        first: NOTHING,
+        second: NOTHING,
+        answer: AllowAnswer::Present,
+    },
+];
 
 /// Four rows: a constant of value 7, and three of value unit.
 fn four_rows() -> [VarRow<ScriptValue>; 4] {
@@ -60,14 +206,6 @@ fn view(mark: bool, limit: usize) -> View<'static> {
         },
         mark,
         limit,
-    }
-}
-
-fn eval(first: Effect, second: Effect, answer: EvalAnswer) -> EvalEntry {
-    EvalEntry {
-        first,
-        second,
-        answer,
     }
 }
 
@@ -107,114 +245,21 @@ fn show(
     print_rows(rt, &vars)
 }
 
-fn print_answers(rt: &LibcRuntime) -> Result<(), AnyError> {
-    let none = Effect::None;
-    let six = ScriptValue::Number(6);
-    show(rt, "value", 1, 3, eval(none, none, EvalAnswer::Value(six)))?;
-    show(
-        rt,
-        "fault",
-        1,
-        3,
-        eval(none, none, EvalAnswer::Fault(FAULT)),
-    )?;
-    show(rt, "exit", 1, 3, eval(none, none, EvalAnswer::Exit(six)))?;
-    show(rt, "code", 1, 3, eval(none, none, EvalAnswer::Code))?;
-    show(rt, "mark", 1, 3, eval(none, none, EvalAnswer::Mark))?;
-    show(rt, "names", 1, 3, eval(none, none, EvalAnswer::Names))?;
-    show(
-        rt,
-        "names past the rows",
-        9,
-        3,
-        eval(none, none, EvalAnswer::Names),
-    )?;
-    show(rt, "last row", 1, 3, eval(none, none, EvalAnswer::Row(1)))?;
-    show(rt, "row 0", 1, 3, eval(none, none, EvalAnswer::Row(0)))?;
-    show(rt, "row 2 of 1", 1, 3, eval(none, none, EvalAnswer::Row(2)))
-}
-
-fn print_appends(rt: &LibcRuntime) -> Result<(), AnyError> {
-    let none = Effect::None;
-    let names = EvalAnswer::Names;
-    show(rt, "append", 1, 3, eval(append(8), none, names))?;
-    show(rt, "append second", 1, 3, eval(none, append(8), names))?;
-    show(rt, "append twice", 1, 3, eval(append(8), append(9), names))?;
-    show(
-        rt,
-        "append to the limit",
-        2,
-        3,
-        eval(append(8), append(9), names),
-    )?;
-    show(
-        rt,
-        "append at the limit",
-        3,
-        3,
-        eval(append(8), append(9), names),
-    )?;
-    show(
-        rt,
-        "append past the limit",
-        3,
-        1,
-        eval(append(8), append(9), names),
-    )?;
-    show(
-        rt,
-        "append to all rows",
-        3,
-        100,
-        eval(append(8), append(9), names),
-    )?;
-    show(
-        rt,
-        "append past the rows",
-        9,
-        100,
-        eval(append(8), none, names),
-    )?;
-    show(
-        rt,
-        "append and read",
-        1,
-        3,
-        eval(append(8), append(9), EvalAnswer::Row(2)),
-    )
-}
-
-fn print_sets(rt: &LibcRuntime) -> Result<(), AnyError> {
-    let none = Effect::None;
-    let last = EvalAnswer::Row(1);
-    show(rt, "set a constant", 1, 3, eval(set(1, 5), none, last))?;
-    show(rt, "set 0", 1, 3, eval(set(0, 5), none, last))?;
-    show(rt, "set 2 of 1", 1, 3, eval(set(2, 5), none, last))?;
-    show(rt, "set 2 of 3", 3, 3, eval(set(2, 5), none, last))?;
-    show(
-        rt,
-        "set 3 of 3",
-        3,
-        3,
-        eval(set(3, 5), none, EvalAnswer::Row(3)),
-    )?;
-    show(
-        rt,
-        "set what was appended",
-        1,
-        3,
-        eval(append(8), set(1, 5), last),
-    )?;
-    show(
-        rt,
-        "set below what was appended",
-        1,
-        3,
-        eval(append(8), set(2, 5), last),
-    )?;
-    show(rt, "set and append", 1, 3, eval(set(1, 5), append(8), last))?;
-    show(rt, "set twice", 1, 3, eval(set(1, 5), set(1, 6), last))?;
-    show(rt, "set past the rows", 9, 3, eval(set(1, 5), none, last))
+fn print_evals(rt: &LibcRuntime) -> Result<(), AnyError> {
+    for (name, used, limit, first, second, answer) in EVALS {
+        show(
+            rt,
+            name,
+            used,
+            limit,
+            EvalEntry {
+                first,
+                second,
+                answer,
+            },
+        )?;
+    }
+    Ok(())
 }
 
 /// Three evaluations of so many entries, and the count after each.
@@ -273,25 +318,10 @@ fn declare(
 }
 
 fn print_allowed(rt: &LibcRuntime) -> Result<(), AnyError> {
-    let none = Effect::None;
-    let free = Access::ReadWrite;
-    declare(rt, "yes", none, AllowAnswer::Yes, free)?;
-    declare(rt, "no", none, AllowAnswer::No, free)?;
-    declare(rt, "fault", none, AllowAnswer::Fault(FAULT), free)?;
-    declare(rt, "present", none, AllowAnswer::Present, free)?;
-    declare(
-        rt,
-        "constant",
-        none,
-        AllowAnswer::Constant,
-        Access::Constant,
-    )?;
-    declare(rt, "constant of another", none, AllowAnswer::Constant, free)?;
-    declare(rt, "level 2", none, AllowAnswer::Level(2), free)?;
-    declare(rt, "level 1", none, AllowAnswer::Level(1), free)?;
-    declare(rt, "level 3", none, AllowAnswer::Level(3), free)?;
-    declare(rt, "and append", append(8), AllowAnswer::Yes, free)?;
-    declare(rt, "and set", set(1, 5), AllowAnswer::No, free)
+    for (name, first, answer, access) in ALLOWS {
+        declare(rt, name, first, answer, access)?;
+    }
+    Ok(())
 }
 
 /// Three declarations, the name absent, of so many entries, and the counts after each.
@@ -323,27 +353,12 @@ fn print_declared(
 }
 
 pub fn print_script(rt: &LibcRuntime) -> Result<(), AnyError> {
-    let none = Effect::None;
-    let nine = eval(none, none, EvalAnswer::Value(ScriptValue::Number(9)));
-    let code = eval(none, none, EvalAnswer::Code);
-    let yes = AllowEntry {
-        first: none,
-        second: none,
-        answer: AllowAnswer::Yes,
-    };
-    let present = AllowEntry {
-        first: none,
-        second: none,
-        answer: AllowAnswer::Present,
-    };
     let mut vars = four_rows();
-    print_answers(rt)?;
-    print_appends(rt)?;
-    print_sets(rt)?;
-    print_turns(rt, &[nine, code], 0, &mut vars)?;
-    print_turns(rt, &[nine, code], usize::MAX, &mut vars)?;
+    print_evals(rt)?;
+    print_turns(rt, &TWO_EVALS, 0, &mut vars)?;
+    print_turns(rt, &TWO_EVALS, usize::MAX, &mut vars)?;
     print_turns(rt, &[], 0, &mut vars)?;
     print_allowed(rt)?;
-    print_declared(rt, &[yes, present], &mut vars)?;
+    print_declared(rt, &TWO_ALLOWS, &mut vars)?;
     print_declared(rt, &[], &mut vars)
 }

@@ -3,9 +3,9 @@
 use crate::kinds::Sample;
 use crate::kinds::all_agree;
 use crate::places::FEED_IN_SITE;
+use crate::places::LO_IN_SITE;
 use crate::places::LOAD_IN_RULE;
 use crate::places::LOAD_IN_SITE;
-use crate::places::LO_IN_SITE;
 use crate::places::texts;
 use crate::tally::Tally;
 use names::append;
@@ -120,5 +120,11 @@ pub fn judge<R: Sample + Named>(
     }
     tally.note(rt, call, kind, "no rows", refuses_without_rows::<R>())?;
     tally.note(rt, call, kind, "then a search", is_found::<R>())?;
-    tally.note(rt, call, kind, "no room, then a search", is_not_found::<R>())
+    tally.note(
+        rt,
+        call,
+        kind,
+        "no room, then a search",
+        is_not_found::<R>(),
+    )
 }

@@ -1,6 +1,7 @@
 //! The two kinds of rows that each case is tried on.
 
 ghost use Rattle.name_cases.specs.declared.kinds.Level.the-variants.{Off};
+use crate::places::NO_NAME;
 use rows::Access;
 use rows::ImportRow;
 use rows::ImportRowNamed;
@@ -10,7 +11,6 @@ use rows::Source;
 use rows::Unital;
 use rows::VarRow;
 use rows::VarRowNamed;
-use crate::places::NO_NAME;
 
 /// The values of the variables.
 #[derive(Clone, Copy, PartialEq, Eq)]

@@ -217,8 +217,20 @@ fn print_in_empty_texts(rt: &LibcRuntime, tally: &mut Tally) -> Result<(), AnyEr
     let in_rule = LOAD_IN_RULE.text(empty).is_empty();
     let in_site = LOAD_IN_SITE.text(empty).is_empty();
     let none = NO_NAME.text(empty).is_empty();
-    tally.note(rt, "text of", "a place", "a name of the rule, no texts", in_rule)?;
-    tally.note(rt, "text of", "a place", "a name of the site, no texts", in_site)?;
+    tally.note(
+        rt,
+        "text of",
+        "a place",
+        "a name of the rule, no texts",
+        in_rule,
+    )?;
+    tally.note(
+        rt,
+        "text of",
+        "a place",
+        "a name of the site, no texts",
+        in_site,
+    )?;
     tally.note(rt, "text of", "a place", "no name, no texts", none)
 }
 

@@ -61,10 +61,10 @@ pub(crate) fn eval_answer(
     }
 }
 
-fn yes_if(test: bool) -> Allowed
-    ensures { λ r. ⌜ r ≡ yesIf test ⌝ }
+fn yes_if(holds: bool) -> Allowed
+    ensures { λ r. ⌜ r ≡ yesIf holds ⌝ }
 {
-    if test { Allowed::Yes } else { Allowed::No }
+    if holds { Allowed::Yes } else { Allowed::No }
 }
 
 fn constant_is(access: Access) -> bool

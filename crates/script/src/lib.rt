@@ -1,4 +1,4 @@
-//! The scripted host, for tests: it does all that a host may do, as a lent script says.
+//! The scripted host: it does all that a host may do, as a lent script says, so that callers can be tried with it.
 
 mod answer;
 mod effect;

@@ -5,7 +5,6 @@ use Prim.Native.Nat.{ℕ}
 use lib.Dec.{eqb}
 use lib.IntN.{pos}
 use Rattle.std.specs.declared.result.Result.the-variants.{Ok, Err}
-use Rattle.image.specs.declared.rows.Position.{Position}
 use Rattle.host.specs.declared.answers.Allowed.{Allowed}
 use Rattle.host.specs.declared.answers.Allowed.the-variants.{Yes}
 use Rattle.host.specs.declared.answers.Applied.{Applied}
@@ -59,7 +58,7 @@ combines op a b = cond (eqb op 1) (appliedOf (plus a b)) (cond (eqb op 2) (appli
 abbrev pub caughtAs : Caught → SiteValue
 caughtAs f = value.Number (pos (number f))
 
--- neither state nor variables change
+-- exprs gives the expressions that a table of kind T has; neither state nor variables change
 abbrev pub siteEvaluate : {T : Type 0} → (T → List SiteExpr) → TableHost T → ℕ → Seen SiteValue → Step (TableHost T) SiteValue (Evaluated SiteValue)
 siteEvaluate exprs s code v = record { state = s; rows = v .rows; answer = evaluatedOf (answerOf (exprAt (exprs (s .table)) code) v) }
 
@@ -67,6 +66,7 @@ siteEvaluate exprs s code v = record { state = s; rows = v .rows; answer = evalu
 abbrev pub siteAllow : {T : Type 0} → TableHost T → Declaration → Seen SiteValue → Step (TableHost T) SiteValue Allowed
 siteAllow s d v = record { state = s; rows = v .rows; answer = Yes }
 
+-- the meaning of the site host over a table of any kind T
 abbrev pub siteMeaning : {T : Type 0} → (T → List SiteExpr) → HostMeaning (TableHost T) SiteValue
 siteMeaning exprs = record {
   evaluate = siteEvaluate exprs;
