@@ -2,6 +2,7 @@
 
 use crate::kinds::Sample;
 use crate::kinds::all_agree;
+use crate::kinds::samples;
 use crate::places::FEED_IN_SITE;
 use crate::places::LO_IN_SITE;
 use crate::places::LOAD_IN_RULE;
@@ -11,6 +12,9 @@ use crate::tally::Tally;
 use names::append;
 use names::search;
 use rows::Named;
+use rows::Place;
+use std::alloc::AllocError;
+use std::alloc::Global;
 use std::error::AnyError;
 
 /// How many of three rows are in use, and what comes of a further one.
@@ -61,52 +65,51 @@ static CASES: [AppendCase; 6] = [
     },
 ];
 
-fn three_rows<R: Sample>() -> [R; 3] {
-    [
-        R::sample(LOAD_IN_RULE, 20),
-        R::sample(FEED_IN_SITE, 21),
-        R::sample(LO_IN_SITE, 22),
-    ]
+static NAMES: [Place; 3] = [LOAD_IN_RULE, FEED_IN_SITE, LO_IN_SITE];
+
+/// The row that the cases append, which has a name of the rows.
+fn appended<R: Sample>() -> R {
+    R::sample(LOAD_IN_SITE, 99)
 }
 
-/// Three rows, of which one is the row that a case appends.
-fn rows_after<R: Sample>(written: Option<usize>, row: R) -> [R; 3] {
-    let [a, b, c] = three_rows::<R>();
-    match written {
-        Some(0) => [row, b, c],
-        Some(1) => [a, row, c],
-        Some(2) => [a, b, row],
-        _ => [a, b, c],
+/// The rows as a case is to leave them.
+fn rows_after<R: Sample>(heap: Global, written: Option<usize>) -> Result<Vec<R>, AllocError> {
+    let mut rows = samples::<R>(heap, &NAMES)?;
+    if let Some(i) = written
+        && i < rows.len()
+    {
+        rows[i] = appended();
     }
+    Ok(rows)
 }
 
-fn passes<R: Sample>(case: &AppendCase) -> bool {
-    let mut rows = three_rows::<R>();
-    let row = R::sample(LOAD_IN_SITE, 23);
-    let answer = append(&mut rows, case.used, row);
-    answer == case.answer && all_agree(&rows, &rows_after(case.written, row))
+fn passes<R: Sample>(heap: Global, case: &AppendCase) -> Result<bool, AllocError> {
+    let mut rows = samples::<R>(heap, &NAMES)?;
+    let after = rows_after::<R>(heap, case.written)?;
+    let answer = append(rows.as_mut_slice(), case.used, appended());
+    Ok(answer == case.answer && all_agree(rows.as_slice(), after.as_slice()))
 }
 
 /// A list without rows has no room.
-fn refuses_without_rows<R: Sample>() -> bool {
-    let mut rows: [R; 0] = [];
-    append(&mut rows, 0, R::sample(LOAD_IN_SITE, 24)).is_none()
+fn refuses_without_rows<R: Sample>(heap: Global) -> bool {
+    let mut rows = Vec::<R>::new(heap);
+    append(rows.as_mut_slice(), 0, appended()).is_none()
 }
 
 /// A row that was appended is found, and hides an earlier one of its name.
-fn is_found<R: Sample + Named>() -> bool {
-    let mut rows = three_rows::<R>();
-    match append(&mut rows, 1, R::sample(LOAD_IN_SITE, 25)) {
-        Some(used) => search(&rows, used, b"load", texts()) == Some(1),
+fn is_found<R: Sample + Named>(heap: Global) -> Result<bool, AllocError> {
+    let mut rows = samples::<R>(heap, &NAMES)?;
+    Ok(match append(rows.as_mut_slice(), 1, appended()) {
+        Some(used) => search(rows.as_slice(), used, b"load", texts()) == Some(1),
         None => false,
-    }
+    })
 }
 
-/// A row that found no room is not found.
-fn is_not_found<R: Sample + Named>() -> bool {
-    let mut rows = three_rows::<R>();
-    append(&mut rows, 3, R::sample(LOAD_IN_SITE, 26)).is_none()
-        && search(&rows, 3, b"load", texts()) == Some(0)
+/// A row that had no room is not found.
+fn is_not_found<R: Sample + Named>(heap: Global) -> Result<bool, AllocError> {
+    let mut rows = samples::<R>(heap, &NAMES)?;
+    let answer = append(rows.as_mut_slice(), 3, appended());
+    Ok(answer.is_none() && search(rows.as_slice(), 3, b"load", texts()) == Some(0))
 }
 
 pub fn judge<R: Sample + Named>(
@@ -115,16 +118,17 @@ pub fn judge<R: Sample + Named>(
     kind: &str,
 ) -> Result<(), AnyError> {
     let call = "append to";
+    let heap = rt.alloc();
     for case in CASES.iter() {
-        tally.note(rt, call, kind, case.name, passes::<R>(case))?;
+        tally.note(rt, call, kind, case.name, passes::<R>(heap, case)?)?;
     }
-    tally.note(rt, call, kind, "no rows", refuses_without_rows::<R>())?;
-    tally.note(rt, call, kind, "then a search", is_found::<R>())?;
+    tally.note(rt, call, kind, "no rows", refuses_without_rows::<R>(heap))?;
+    tally.note(rt, call, kind, "then a search", is_found::<R>(heap)?)?;
     tally.note(
         rt,
         call,
         kind,
         "no room, then a search",
-        is_not_found::<R>(),
+        is_not_found::<R>(heap)?,
     )
 }

@@ -2,6 +2,7 @@
 
 ghost use Rattle.name_cases.specs.declared.kinds.Level.the-variants.{Off};
 use crate::places::NO_NAME;
+use crate::places::NO_NAME;
 use rows::Access;
 use rows::ImportRow;
 use rows::ImportRowNamed;
@@ -85,6 +86,17 @@ pub impl Sample for ImportRow as ImportSample {
     fn agrees(&self, other: &ImportRow) -> bool {
         same_place(self.place(), other.place()) && self.module() == other.module()
     }
+}
+
+/// Rows of these names, in their order, each with a number of its own.
+pub fn samples<R: Sample>(heap: Global, places: &[Place]) -> Result<Vec<R>, AllocError> {
+    let mut rows = Vec::new(heap);
+    let mut number = 10u32;
+    for place in places {
+        rows.push(R::sample(*place, number))?;
+        number = number.saturating_add(1);
+    }
+    Ok(rows)
 }
 
 /// Whether two lists have the same rows.

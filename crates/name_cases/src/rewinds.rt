@@ -2,6 +2,7 @@
 
 use crate::kinds::Sample;
 use crate::kinds::all_agree;
+use crate::kinds::samples;
 use crate::places::FEED_IN_RULE;
 use crate::places::FEED_IN_SITE;
 use crate::places::LOAD_IN_RULE;
@@ -12,6 +13,9 @@ use names::rewind;
 use names::search;
 use rows::Blank;
 use rows::Named;
+use rows::Place;
+use std::alloc::AllocError;
+use std::alloc::Global;
 use std::error::AnyError;
 
 /// How many of four rows are in use, from where they are given up, and what comes of it.
@@ -97,56 +101,47 @@ static CASES: [RewindCase; 10] = [
     },
 ];
 
-fn four_rows<R: Sample>() -> [R; 4] {
-    [
-        R::sample(LOAD_IN_RULE, 30),
-        R::sample(FEED_IN_SITE, 31),
-        R::sample(LOAD_IN_SITE, 32),
-        R::sample(FEED_IN_RULE, 33),
-    ]
+static NAMES: [Place; 4] = [LOAD_IN_RULE, FEED_IN_SITE, LOAD_IN_SITE, FEED_IN_RULE];
+
+/// The rows as a case is to leave them.
+fn rows_after<R: Sample>(heap: Global, blank: &[bool]) -> Result<Vec<R>, AllocError> {
+    let before = samples::<R>(heap, &NAMES)?;
+    let mut rows = Vec::new(heap);
+    for (row, blank) in before.iter().zip(blank.iter()) {
+        rows.push(if *blank { R::blank_row() } else { *row })?;
+    }
+    Ok(rows)
 }
 
-fn blank_or<R: Sample>(blank: bool, row: R) -> R {
-    if blank { R::blank_row() } else { row }
-}
-
-fn rows_after<R: Sample>(blank: [bool; 4]) -> [R; 4] {
-    let [a, b, c, d] = four_rows::<R>();
-    [
-        blank_or(blank[0], a),
-        blank_or(blank[1], b),
-        blank_or(blank[2], c),
-        blank_or(blank[3], d),
-    ]
-}
-
-fn passes<R: Sample + Blank>(case: &RewindCase) -> bool {
-    let mut rows = four_rows::<R>();
-    let answer = rewind(&mut rows, case.used, case.from);
-    answer == case.answer && all_agree(&rows, &rows_after(case.blank))
+fn passes<R: Sample + Blank>(heap: Global, case: &RewindCase) -> Result<bool, AllocError> {
+    let mut rows = samples::<R>(heap, &NAMES)?;
+    let after = rows_after::<R>(heap, &case.blank)?;
+    let answer = rewind(rows.as_mut_slice(), case.used, case.from);
+    Ok(answer == case.answer && all_agree(rows.as_slice(), after.as_slice()))
 }
 
 /// Of a list without rows there is nothing to give up.
-fn leaves_no_rows<R: Sample + Blank>() -> bool {
-    let mut rows: [R; 0] = [];
-    rewind(&mut rows, 0, 0) == 0 && rewind(&mut rows, 2, 1) == 2
+fn leaves_no_rows<R: Sample + Blank>(heap: Global) -> bool {
+    let mut rows = Vec::<R>::new(heap);
+    rewind(rows.as_mut_slice(), 0, 0) == 0 && rewind(rows.as_mut_slice(), 2, 1) == 2
 }
 
-/// A row that hid another is given up, so that the other is found again.
-fn uncovers<R: Sample + Blank + Named>() -> bool {
-    let mut rows = four_rows::<R>();
-    let used = rewind(&mut rows, 4, 2);
-    search(&rows, used, b"load", texts()) == Some(0)
-        && search(&rows, used, b"feed", texts()) == Some(1)
+/// Rows that hid others are given up, so that the others are found again.
+fn uncovers<R: Sample + Blank + Named>(heap: Global) -> Result<bool, AllocError> {
+    let mut rows = samples::<R>(heap, &NAMES)?;
+    let used = rewind(rows.as_mut_slice(), 4, 2);
+    let load = search(rows.as_slice(), used, b"load", texts());
+    let feed = search(rows.as_slice(), used, b"feed", texts());
+    Ok(load == Some(0) && feed == Some(1))
 }
 
 /// A blank row has no name: it is found by empty bytes, where it counts as in use, and its old name is gone.
-fn blank_has_no_name<R: Sample + Blank + Named>() -> bool {
-    let mut rows = four_rows::<R>();
-    let used = rewind(&mut rows, 4, 0);
-    used == 0
-        && search(&rows, 4, b"load", texts()).is_none()
-        && search(&rows, 4, b"", texts()) == Some(3)
+fn blank_has_no_name<R: Sample + Blank + Named>(heap: Global) -> Result<bool, AllocError> {
+    let mut rows = samples::<R>(heap, &NAMES)?;
+    let used = rewind(rows.as_mut_slice(), 4, 0);
+    let load = search(rows.as_slice(), 4, b"load", texts());
+    let empty = search(rows.as_slice(), 4, b"", texts());
+    Ok(used == 0 && load.is_none() && empty == Some(3))
 }
 
 pub fn judge<R: Sample + Blank + Named>(
@@ -155,10 +150,11 @@ pub fn judge<R: Sample + Blank + Named>(
     kind: &str,
 ) -> Result<(), AnyError> {
     let call = "rewind of";
+    let heap = rt.alloc();
     for case in CASES.iter() {
-        tally.note(rt, call, kind, case.name, passes::<R>(case))?;
+        tally.note(rt, call, kind, case.name, passes::<R>(heap, case)?)?;
     }
-    tally.note(rt, call, kind, "no rows", leaves_no_rows::<R>())?;
-    tally.note(rt, call, kind, "then a search", uncovers::<R>())?;
-    tally.note(rt, call, kind, "blank rows", blank_has_no_name::<R>())
+    tally.note(rt, call, kind, "no rows", leaves_no_rows::<R>(heap))?;
+    tally.note(rt, call, kind, "then a search", uncovers::<R>(heap)?)?;
+    tally.note(rt, call, kind, "blank rows", blank_has_no_name::<R>(heap)?)
 }

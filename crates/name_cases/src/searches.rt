@@ -1,6 +1,7 @@
 //! The search by name, from the last row in use.
 
 use crate::kinds::Sample;
+use crate::kinds::samples;
 use crate::places::FEED_IN_RULE;
 use crate::places::FEED_IN_SITE;
 use crate::places::LOAD_IN_RULE;
@@ -11,6 +12,7 @@ use crate::places::texts;
 use crate::tally::Tally;
 use names::search;
 use rows::Named;
+use rows::Place;
 use std::error::AnyError;
 
 /// What is sought among the first rows, and the number of the row that is found.
@@ -21,18 +23,14 @@ struct SearchCase {
     found: Option<usize>,
 }
 
-/// By number: `load` of the rule, `feed` of the site, `load` of the site, no name, a name that does not fit, and
-/// `feed` of the rule.
-fn six_rows<R: Sample>() -> [R; 6] {
-    [
-        R::sample(LOAD_IN_RULE, 10),
-        R::sample(FEED_IN_SITE, 11),
-        R::sample(LOAD_IN_SITE, 12),
-        R::sample(NO_NAME, 13),
-        R::sample(PAST_RULE, 14),
-        R::sample(FEED_IN_RULE, 15),
-    ]
-}
+static NAMES: [Place; 6] = [
+    LOAD_IN_RULE,
+    FEED_IN_SITE,
+    LOAD_IN_SITE,
+    NO_NAME,
+    PAST_RULE,
+    FEED_IN_RULE,
+];
 
 static CASES: [SearchCase; 17] = [
     SearchCase {
@@ -179,7 +177,8 @@ pub fn judge<R: Sample + Named>(
     tally: &mut Tally,
     kind: &str,
 ) -> Result<(), AnyError> {
-    let rows = six_rows::<R>();
-    judge_all(rt, tally, kind, &rows, &CASES)?;
-    judge_all(rt, tally, kind, &rows[0..0], &IN_NO_ROWS)
+    let rows = samples::<R>(rt.alloc(), &NAMES)?;
+    let none = samples::<R>(rt.alloc(), &[])?;
+    judge_all(rt, tally, kind, rows.as_slice(), &CASES)?;
+    judge_all(rt, tally, kind, none.as_slice(), &IN_NO_ROWS)
 }
