@@ -33,9 +33,9 @@ use Rattle.outcome.specs.declared.SessionRefusal.{SessionRefusal}
 use Rattle.outcome.specs.declared.SessionRefusal.the-variants.{Rows, Name, Full}
 use Rattle.outcome.specs.Faults.{number}
 use Rattle.run.specs.Acts.{Out, value, failed, broke, again, returned, exited}
-use Rattle.run.specs.Promise.{namesOf, stoppedRun, stops, Ran, Holds, Each, Agree, Promise}
+use Rattle.run.specs.Promise.{namesOf, stoppedRun, stops, Within, Ran, Holds, Each, Agree, Promise}
 use Rattle.run.specs.Says.{cut, After, appendedAt}
-use Rattle.run.specs.Session.{manyRounds, Lent, Call, put, read, rewind, run, Answer, refused, made, got, ran, Terms, limited, outcomeOf, World, Entry, short, nameless, setting, start, runs, refusing, lastValue, siteName, putting, rewinding, call, calls, opened, ended′, same}
+use Rattle.run.specs.Session.{manyRounds, Lent, Call, put, read, rewind, run, Answer, refused, made, got, ran, countOf, Terms, limited, outcomeOf, World, Entry, short, nameless, setting, start, runs, refusing, lastValue, siteName, putting, rewinding, call, calls, opened, ended′, same}
 use Rattle.run.specs.Statements.{whole}
 use Rattle.run.specs.Walk.{Event, End, stopped, ended, Setting, State, Done, walk}
 use Rattle.run.proofs.Counts.{counted}
@@ -110,10 +110,20 @@ module _ {S V W : Type 0} (m : HostMeaning S V) (laws : HostLaws m) (idle : W) (
   bounded None q limit s b e = absurd (let z : _≡_ {A = ℕ} 0 1 = cc e in omega arith)
   bounded (Some n) q limit s b e = let same : n ≡ q = cc e in omega (arith, b limit manyRounds s)
 
-  -- one run
+  -- the count of one run
+  run-within : (limit : ℕ) (l : Lent) (exit : Bool) (u : World S V W) → let e = runs m idle resolver t limit l exit u in Within (t .rule) limit (stops (e .answer)) (countOf (e .answer))
+  run-within limit l exit u =
+      let w = setting m idle resolver t in
+      let s = start m idle resolver t l u in
+      let d = walk m w limit manyRounds (whole m resolver (t .rule)) s in
+      record {
+        counted = subst (λ b. After limit b (d .state .count)) (sym (stopped-is (m .unit) exit (d .out))) (counted m w limit manyRounds (whole m resolver (t .rule)) s (omega arith));
+        quoted = λ q z. omega (arith, bounded (blockQuote (t .rule) deepest 0) q limit s (good-whole m w resolver (t .rule) .bound) (quote-of (t .rule) (Some q) z));
+      }
+
+  -- its names and blocks
   run-holds : (limit : ℕ) (l : Lent) (exit : Bool) (u : World S V W) → u .names ≤ t .names → short m idle resolver t l u ≡ false →
-      let e = runs m idle resolver t limit l exit u in
-      Holds t limit (namesOf (e .was)) (namesOf (e .now)) (e .log) (e .now .names) (e .answer)
+      let e = runs m idle resolver t limit l exit u in Holds t e (e .answer)
   run-holds limit l exit u le e =
       let w = setting m idle resolver t in
       let s = start m idle resolver t l u in
@@ -125,16 +135,18 @@ module _ {S V W : Type 0} (m : HostMeaning S V) (laws : HostLaws m) (idle : W) (
             ∙ k .appended
             ∙ ap (λ x. map placeOf x ++ appendedAt 0 (d .log)) (lent-used (l .vars) (u .names) (u .vars) (omega (arith, lent-rows l u e)));
         blocks = k .blocks;
-        counted = subst (λ b. After limit b (d .state .count)) (sym (stopped-is (m .unit) exit (d .out))) (counted m w limit manyRounds (whole m resolver (t .rule)) s (omega arith));
-        quoted = λ q z. omega (arith, bounded (blockQuote (t .rule) deepest 0) q limit s (good-whole m w resolver (t .rule) .bound) (quote-of (t .rule) (Some q) z));
         few = k .few le;
       }
 
   abbrev Fine : ℕ → Entry S V W → Type 0
-  Fine limit e = Holds t limit (namesOf (e .was)) (namesOf (e .now)) (e .log) (e .now .names) (e .answer) × (e .now .names ≤ t .names)
+  Fine limit e = Within (t .rule) limit (stops (e .answer)) (countOf (e .answer)) × Holds t e (e .answer) × (e .now .names ≤ t .names)
+
+  -- a call that counts nothing
+  nothing : (limit : ℕ) → Within (t .rule) limit false 0
+  nothing limit = record { counted = omega arith; quoted = λ q z. omega arith }
 
   after : (b : Bool) (r : SessionRefusal) (limit : ℕ) (u : World S V W) (e : Entry S V W) → u .names ≤ t .names → (b ≡ false → Fine limit e) → Fine limit (refusing m idle resolver t b r u e)
-  after true r limit u e le h = (tt, le)
+  after true r limit u e le h = (nothing limit, refl, le)
   after false r limit u e le h = h refl
 
   -- each call, and that names stay within their limit
@@ -146,25 +158,25 @@ module _ {S V W : Type 0} (m : HostMeaning S V) (laws : HostLaws m) (idle : W) (
       after (short m idle resolver t l u) Rows limit u (refusing m idle resolver t none Name u (refusing m idle resolver t full Full u made′)) le (λ s.
       after none Name limit u (refusing m idle resolver t full Full u made′) le (λ n.
       after full Full limit u made′ le (λ f.
-      let few : u .names + 1 ≤ t .names = omega (arith, leb-false (t .names) (u .names) f) in (tt, few))))
+      let few : u .names + 1 ≤ t .names = omega (arith, leb-false (t .names) (u .names) f) in (nothing limit, tt, few))))
   call-fine limit l (read offset size) u le =
       let e = same m idle resolver t u (got (lastValue m idle resolver t l u (siteName m idle resolver t offset size))) in
       let none = nameless m idle resolver t offset size in
-      after (short m idle resolver t l u) Rows limit u (refusing m idle resolver t none Name u e) le (λ s. after none Name limit u e le (λ n. (tt, le)))
+      after (short m idle resolver t l u) Rows limit u (refusing m idle resolver t none Name u e) le (λ s. after none Name limit u e le (λ n. (nothing limit, refl, le)))
   call-fine limit l (rewind n) u le =
       after (short m idle resolver t l u) Rows limit u (rewinding m idle resolver t l n u) le (λ s.
       let few : shortened (take (l .vars) (u .vars)) (u .names) n ≤ t .names =
       omega (arith, cut-used (take (l .vars) (u .vars)) (u .names) n (omega (arith, lent-rows l u s))) in
-      (tt, few))
+      (nothing limit, tt, few))
   call-fine limit l (run exit) u le =
-      after (short m idle resolver t l u) Rows limit u (runs m idle resolver t limit l exit u) le (λ s. let h = run-holds limit l exit u le s in (h, h .few))
+      after (short m idle resolver t l u) Rows limit u (runs m idle resolver t limit l exit u) le (λ s. let h = run-holds limit l exit u le s in (run-within limit l exit u, h, h .few))
 
   each-fine : (limit : ℕ) (cs : List (Lent × Call V)) (u : World S V W) → u .names ≤ t .names → Each t limit (calls m idle resolver t limit cs u)
   unfolding calls
   each-fine limit [] u le = tt
   each-fine limit (c ∷ cs) u le =
       let h = call-fine limit (c .0) (c .1) u le in
-      (h .0, each-fine limit cs (call m idle resolver t limit (c .0) (c .1) u .now) (h .1))
+      (h .0, h .1, each-fine limit cs (call m idle resolver t limit (c .0) (c .1) u .now) (h .2))
 
   -- two limits of operations
   module _ (low high : ℕ) (le : low ≤ high) where

@@ -16,7 +16,7 @@ use Rattle.resolve.specs.declared.resolver.Resolved.{Resolved}
 use Rattle.outcome.specs.declared.Outcome.{Outcome}
 use Rattle.outcome.specs.Faults.{outcomeNumber}
 use Rattle.run.specs.Says.{After, appendedAt, BlocksKeep}
-use Rattle.run.specs.Session.{manyRounds, Lent, Call, Answer, refused, made, got, ran, Terms, World, Entry, calls, opened, openRefusal}
+use Rattle.run.specs.Session.{manyRounds, Lent, Call, Answer, refused, made, got, ran, countOf, Terms, World, Entry, calls, opened, openRefusal}
 use Rattle.run.specs.Statements.{whole}
 use Rattle.run.specs.Walk.{Event, Setting, State, walk}
 use lib.Dec.{eqb}
@@ -35,30 +35,34 @@ stops made = false
 stops (got v) = false
 stops (ran o n) = stoppedRun o
 
--- what holds of one run: its names, its inner blocks, its count, and the quote
-pub record Ran (rule : List ℕ) (limit names : ℕ) (before after : List Place) (log : List Event) (stop : Bool) (count used : ℕ) : Type 0 where
-  -- the names are those before, then in order exactly those that a let or the host appended at level 0
-  pub appended : after ≡ before ++ appendedAt 0 log
-  -- every inner block ended with the names, imports, level and mark of its start
-  pub blocks : BlocksKeep log
+-- what holds of the count of a call
+pub record Within (rule : List ℕ) (limit : ℕ) (stop : Bool) (count : ℕ) : Type 0 where
   -- stopped for operations it counted exactly the limit plus one, else at most the limit
   pub counted : After limit stop count
   -- no more than the quote that the check gave
   pub quoted : (q : ℕ) → checked rule ≡ Ok (Some q) → count ≤ q
-  -- names never pass their limit
-  pub few : used ≤ names
 
-abbrev pub Holds : {V : Type 0} → Terms → ℕ → List Place → List Place → List Event → ℕ → Answer V → Type 0
-Holds t limit before after log used (refused r) = Unit {0}
-Holds t limit before after log used made = Unit {0}
-Holds t limit before after log used (got v) = Unit {0}
-Holds t limit before after log used (ran o n) = Ran (t .rule) limit (t .names) before after log (stoppedRun o) n used
+-- what holds of the names and the inner blocks of a run
+pub record Ran (limit : ℕ) (before after : List Place) (log : List Event) (used : ℕ) : Type 0 where
+  -- the names are those before, then in order exactly those that a let or the host appended at level 0
+  pub appended : after ≡ before ++ appendedAt 0 log
+  -- every inner block ended with the names, imports, level and mark of its start
+  pub blocks : BlocksKeep log
+  -- names never pass their limit
+  pub few : used ≤ limit
 
 module _ {S V W : Type 0} where
+  -- by a call's answer: a run as above; what is refused changes nothing, and neither does a read
+  abbrev pub Holds : Terms → Entry S V W → Answer V → Type 0
+  Holds t e (refused r) = e .now ≡ e .was
+  Holds t e made = Unit {0}
+  Holds t e (got v) = e .now ≡ e .was
+  Holds t e (ran o n) = Ran (t .names) (namesOf (e .was)) (namesOf (e .now)) (e .log) (e .now .names)
+
   -- of each call
   abbrev pub Each : Terms → ℕ → List (Entry S V W) → Type 0
   Each t limit [] = Unit {0}
-  Each t limit (e ∷ es) = Holds t limit (namesOf (e .was)) (namesOf (e .now)) (e .log) (e .now .names) (e .answer) × Each t limit es
+  Each t limit (e ∷ es) = Within (t .rule) limit (stops (e .answer)) (countOf (e .answer)) × Holds t e (e .answer) × Each t limit es
 
   -- the same calls, answers, tables and events, until a run of the first stops for operations
   abbrev pub Agree : List (Entry S V W) → List (Entry S V W) → Type 0

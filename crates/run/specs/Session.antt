@@ -51,6 +51,13 @@ pub data Answer (V : Type 0) : Type 0 where
   -- with the count
   ran : Outcome V → ℕ → Answer V
 
+-- what a call counts: a run its operations; a refused run, and every other call, 0
+abbrev pub countOf : {V : Type 0} → Answer V → ℕ
+countOf (refused r) = 0
+countOf made = 0
+countOf (got v) = 0
+countOf (ran o n) = n
+
 -- what a session is opened with: the rule's image, the site's text and the limits
 pub record Terms : Type 0 where
   pub rule : List ℕ
