@@ -99,10 +99,12 @@ fn refuses_without_rows<R: Sample>(heap: Global) -> bool {
 /// A row that was appended is found, and hides an earlier one of its name.
 fn is_found<R: Sample + Named>(heap: Global) -> Result<bool, AllocError> {
     let mut rows = samples::<R>(heap, &NAMES)?;
-    Ok(match append(rows.as_mut_slice(), 1, appended()) {
-        Some(used) => search(rows.as_slice(), used, b"load", texts()) == Some(1),
-        None => false,
-    })
+    Ok(
+        match append(rows.as_mut_slice(), 1, appended()) {
+            Some(used) => search(rows.as_slice(), used, b"load", texts()) == Some(1),
+            None => false,
+        },
+    )
 }
 
 /// A row that had no room is not found.

@@ -2,7 +2,6 @@
 
 ghost use Rattle.name_cases.specs.declared.kinds.Level.the-variants.{Off};
 use crate::places::NO_NAME;
-use crate::places::NO_NAME;
 use rows::Access;
 use rows::ImportRow;
 use rows::ImportRowNamed;
@@ -12,6 +11,8 @@ use rows::Source;
 use rows::Unital;
 use rows::VarRow;
 use rows::VarRowNamed;
+use std::alloc::AllocError;
+use std::alloc::Global;
 
 /// The values of the variables.
 #[derive(Clone, Copy, PartialEq, Eq)]

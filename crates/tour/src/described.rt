@@ -96,19 +96,21 @@ impl Described {
 
     /// What an expression as written stands for; none where it names operands that there are not.
     fn compiled(&mut self, expression: Expression<'_>) -> Result<Option<SiteExpr>, AnyError> {
-        Ok(match expression {
-            Expression::Value(value) => Some(SiteExpr::Operand(Operand::Constant(value))),
-            Expression::Variable(name) => {
-                let place = put_name(&mut self.rule, Source::Rule, name)?;
-                Some(SiteExpr::Operand(Operand::Variable(place)))
-            }
-            Expression::Two(left, operator, right) => {
-                match (self.operand(left), self.operand(right)) {
-                    (Some(left), Some(right)) => Some(joined(left, operator, right)),
-                    _ => None,
+        Ok(
+            match expression {
+                Expression::Value(value) => Some(SiteExpr::Operand(Operand::Constant(value))),
+                Expression::Variable(name) => {
+                    let place = put_name(&mut self.rule, Source::Rule, name)?;
+                    Some(SiteExpr::Operand(Operand::Variable(place)))
                 }
-            }
-        })
+                Expression::Two(left, operator, right) => {
+                    match (self.operand(left), self.operand(right)) {
+                        (Some(left), Some(right)) => Some(joined(left, operator, right)),
+                        _ => None,
+                    }
+                }
+            },
+        )
     }
 
     /// Adds an expression, and answers its code.

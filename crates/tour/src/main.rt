@@ -24,6 +24,7 @@ use line::read_line;
 use std::error::AnyError;
 use std::io::BufRead;
 use std::io::BufReader;
+use std::str::from_utf8;
 use told::Told;
 use told::ToldDisplay;
 
@@ -34,10 +35,12 @@ fn follow<'a>(site: &mut Described, line: Line<'a>) -> Result<Option<Told<'a>>, 
             site.add_name(name, access, value)?;
             Ok(Some(Told::Name(name, access, value)))
         }
-        Line::Expression(expression) => Ok(match site.add_expression(expression)? {
-            Some(code) => Some(Told::Expression(code, expression)),
-            None => None,
-        }),
+        Line::Expression(expression) => Ok(
+            match site.add_expression(expression)? {
+                Some(code) => Some(Told::Expression(code, expression)),
+                None => None,
+            },
+        ),
         Line::Module(path, answer) => {
             site.add_module(path, answer)?;
             Ok(Some(Told::Module(path, answer)))
@@ -55,6 +58,12 @@ fn says_nothing(words: &[&str]) -> bool {
     }
 }
 
+fn print_not_understood(rt: &LibcRuntime, number: u64) -> Result<(), AnyError> {
+    println!(rt, "line {number}: not understood")?;
+    Ok(())
+}
+
+/// Does what the words of a line say, and prints it.
 fn print_line(
     rt: &LibcRuntime,
     site: &mut Described,
@@ -71,17 +80,21 @@ fn print_line(
     };
     match told {
         Some(told) => println!(rt, "{told}")?,
-        None => println!(rt, "line {number}: not understood")?,
+        None => print_not_understood(rt, number)?,
     }
     Ok(())
 }
 
+/// Lines are read as bytes, because one that is no text is to be passed over and not to end the run.
 fn run(rt: &LibcRuntime) -> Result<(), AnyError> {
     let mut site = Described::new(rt.alloc());
     let mut number = 0u64;
-    for line in BufReader::new(rt.stdin()).lines(rt.alloc()) {
+    for line in BufReader::new(rt.stdin()).split(rt.alloc(), b'\n') {
         number = number.saturating_add(1);
-        print_line(rt, &mut site, number, line?.as_str())?;
+        match from_utf8(line?.as_slice()) {
+            Ok(text) => print_line(rt, &mut site, number, text)?,
+            Err(_) => print_not_understood(rt, number)?,
+        }
     }
     Ok(())
 }
