@@ -1,10 +1,9 @@
 #!/usr/bin/env python3
 """Writes the table of samples of the crate `samples` from recorded cases.
 
-The cases are those that were made by hand, each for one thing, over the site host and the
-scripted host: of reference/recorded/main.txt with the answers of the original, and of
-differences-by-rules.txt with the answers that the rules give where the original departs.
-docs/CASES.md describes their format.
+The cases are those that were made by hand, each for one thing: of reference/recorded/main.txt with
+the answers of the original, and of differences-by-rules.txt with the answers that the rules give
+where the original departs. docs/CASES.md describes their format.
 """
 
 import re
@@ -127,6 +126,13 @@ def entry(name, w, answer):
     return f"({name} {first} {second} {answer(w)})"
 
 
+def list_entry(w):
+    """An entry of the list host, whose values are numbers of 32 bits."""
+    kind, word = w.take(), w.take()
+    number = {"unit": 0, "false": 1, "true": 2}.get(word)
+    return f"(entry.{kind.capitalize()} {w.number() + 3 if number is None else number})"
+
+
 def resolved(w):
     word = w.take()
     if word == "module":
@@ -214,6 +220,8 @@ def answers(lines):
 def host(kind, lines):
     if kind == "site":
         return f"(site {listed([expression(Words(x[1:])) for x in lines if x[0] == 'code'])})"
+    if kind == "list":
+        return f"(listed {listed([list_entry(Words(x[1:])) for x in lines if x[0] == 'entry'])})"
     evals = [entry("evaluation", Words(x[1:]), eval_answer) for x in lines if x[0] == "eval"]
     allows = [entry("declaration", Words(x[1:]), allow_answer) for x in lines if x[0] == "allow"]
     return f"(scripted {listed(evals)} {listed(allows)})"
@@ -236,8 +244,6 @@ def bytes_of(word):
 
 def sample(lines):
     fields = {words[0]: words[1:] for words in lines if words[0] in ("image", "site", "limits", "host")}
-    if fields["host"][0] == "list":
-        return None
     lent, calls, first = "lend 128 16 64", [], None
     for words in lines:
         if words[0] == "lend":
@@ -266,9 +272,7 @@ def chosen():
         for lines in blocks(RECORDED / name):
             if GENERATED.search(lines[0][1]):
                 continue
-            found = sample(lines)
-            if found:
-                yield found
+            yield sample(lines)
 
 
 HEADER = (Path(__file__).parent / "header.antt.txt").read_text()

@@ -85,12 +85,25 @@ fn print_read(rt: &LibcRuntime, host: &ListHost<'_>) -> Result<(), AnyError> {
 }
 
 fn print_made(rt: &LibcRuntime, host: &ListHost<'_>) -> Result<(), AnyError> {
-    println!(rt, "list unit: {}", host.make_unit().0)?;
-    println!(rt, "list false: {}", host.make_truth(false).0)?;
-    println!(rt, "list true: {}", host.make_truth(true).0)?;
+    let made = [
+        ("unit", host.make_unit()),
+        ("false", host.make_truth(false)),
+        ("true", host.make_truth(true)),
+    ];
+    for (name, value) in made {
+        println!(rt, "list {name}: {}", value.0)?;
+    }
+    Ok(())
+}
+
+fn print_wholes(rt: &LibcRuntime, host: &ListHost<'_>) -> Result<(), AnyError> {
     for n in WHOLES {
         println!(rt, "list whole {n}: {}", host.make_whole(n).0)?;
     }
+    Ok(())
+}
+
+fn print_caught(rt: &LibcRuntime, host: &ListHost<'_>) -> Result<(), AnyError> {
     for fault in CAUGHT {
         let number = fault.number();
         println!(rt, "list caught {number}: {}", host.caught(fault).0)?;
@@ -100,12 +113,14 @@ fn print_made(rt: &LibcRuntime, host: &ListHost<'_>) -> Result<(), AnyError> {
 
 fn print_fixed(rt: &LibcRuntime, host: &ListHost<'_>) -> Result<(), AnyError> {
     let five = ListValue(5);
-    let applied = told::applied(host.apply(1, five, five));
-    let binary = told::applied(host.binary(2, five, five));
-    let item = told::item(host.item(five, 0));
-    println!(rt, "list apply: {applied}")?;
-    println!(rt, "list binary: {binary}")?;
-    println!(rt, "list item: {item}")?;
+    let fixed = [
+        ("apply", told::applied(host.apply(1, five, five))),
+        ("binary", told::applied(host.binary(2, five, five))),
+        ("item", told::item(host.item(five, 0))),
+    ];
+    for (name, answer) in fixed {
+        println!(rt, "list {name}: {answer}")?;
+    }
     Ok(())
 }
 
@@ -155,6 +170,8 @@ pub fn print_list(rt: &LibcRuntime) -> Result<(), AnyError> {
     };
     print_read(rt, &host)?;
     print_made(rt, &host)?;
+    print_wholes(rt, &host)?;
+    print_caught(rt, &host)?;
     print_fixed(rt, &host)?;
     let mut vars = [VarRow::new(PLACE, Access::Constant, ListValue(7)); 2];
     print_evaluated(rt, &mut vars)?;

@@ -79,14 +79,16 @@ fn print_read(rt: &LibcRuntime, host: &ScriptHost<'_>) -> Result<(), AnyError> {
 }
 
 fn print_made(rt: &LibcRuntime, host: &ScriptHost<'_>) -> Result<(), AnyError> {
-    let unit = Word::Scripted(host.make_unit());
-    let truth = Word::Scripted(host.make_truth(true));
-    let whole = Word::Scripted(host.make_whole(u32::MAX));
-    let caught = Word::Scripted(host.caught(Caught::Host(9)));
-    println!(rt, "script unit: {unit}")?;
-    println!(rt, "script true: {truth}")?;
-    println!(rt, "script whole: {whole}")?;
-    println!(rt, "script caught: {caught}")?;
+    let made = [
+        ("unit", host.make_unit()),
+        ("true", host.make_truth(true)),
+        ("whole", host.make_whole(u32::MAX)),
+        ("caught", host.caught(Caught::Host(9))),
+    ];
+    for (name, value) in made {
+        let word = Word::Scripted(value);
+        println!(rt, "script {name}: {word}")?;
+    }
     Ok(())
 }
 

@@ -5,6 +5,7 @@ use host::Applied;
 use host::Evaluated;
 use host::Fault;
 use host::Item;
+use image::Position;
 use list::ListValue;
 use resolve::Resolved;
 use script::ScriptValue;
@@ -64,20 +65,23 @@ pub enum Told {
     NotIterable,
 }
 
-fn fault_words<W: fmt::Write>(fault: Fault, f: &mut fmt::Formatter<W>) -> fmt::Result {
-    let code = fault.code;
-    let line = fault.at.line;
-    let column = fault.at.column;
-    let kind = if fault.catchable {
-        "catchable"
-    } else {
-        "final"
-    };
-    if line == 0 && column == 0 {
-        write!(f, "fault {code} {kind}")
-    } else {
-        write!(f, "fault {code} {kind} at {line}:{column}")
+/// A position in words; line 0 and column 0 are none.
+#[derive(Clone, Copy)]
+struct At(Position);
+
+impl fmt::Display for At as AtDisplay {
+    fn fmt<W: fmt::Write>(&self, f: &mut fmt::Formatter<W>) -> fmt::Result {
+        let Position { line, column } = self.0;
+        if line == 0 && column == 0 {
+            write!(f, "")
+        } else {
+            write!(f, " at {line}:{column}")
+        }
     }
+}
+
+fn kind(catchable: bool) -> &'static str {
+    if catchable { "catchable" } else { "final" }
 }
 
 pub impl fmt::Display for Told as ToldDisplay {
@@ -86,7 +90,13 @@ pub impl fmt::Display for Told as ToldDisplay {
             Told::Value(word) => write!(f, "value {word}"),
             Told::Exit(word) => write!(f, "exit {word}"),
             Told::Item(word) => write!(f, "item {word}"),
-            Told::Fault(fault) => fault_words(fault, f),
+            Told::Fault(fault) => write!(
+                f,
+                "fault {} {}{}",
+                fault.code,
+                kind(fault.catchable),
+                At(fault.at)
+            ),
             Told::Module(n) => write!(f, "module {n}"),
             Told::Number(n) => write!(f, "{n}"),
             Told::Truth(b) => write!(f, "{b}"),

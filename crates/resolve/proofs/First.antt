@@ -6,7 +6,6 @@ use Prim.Native.Nat.{ℕ, zero, suc, _<_, _≤_}
 use native.Mathlib.Omega.{arith}
 use lib.ListN.{length, getD}
 use Rattle.std.proofs.shelf.Tests.{cond-true, cond-false, eq-eqb, ne-eqb, lt-ltb, le-ltb, cases-lt}
-use Rattle.resolve.specs.declared.resolver.Resolved.{Resolved}
 use Rattle.resolve.specs.declared.resolver.Resolved.the-variants.{NotFound}
 use Rattle.resolve.specs.declared.table.PathRow.{PathRow}
 use Rattle.resolve.specs.Table.{answerAt, firstOf, noRow}

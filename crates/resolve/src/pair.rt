@@ -1,4 +1,3 @@
-ghost use mathlib.Core.Path.{_≡_};
 ghost use Rattle.resolve.specs.Pair.{unlessFound};
 use crate::resolver::Resolved;
 use crate::resolver::Resolver;

@@ -1,10 +1,11 @@
 -- samples: a rule image, a host and a list of calls, and what they answer
-use mathlib.Core.Bool.{Bool, true, false}
+use mathlib.Core.Bool.{Bool, true, false, cond}
 use mathlib.Core.List.{List, [], _∷_, map}
 use mathlib.Core.Path.{_≡_}
-use Prim.Native.Nat.{ℕ}
+use Prim.Native.Nat.{ℕ, _-_}
 use lib.ListN.{length, replicate}
-use lib.IntN.{ℤ}
+use lib.Dec.{eqb}
+use lib.IntN.{ℤ, pos, negsuc}
 use Rattle.std.specs.declared.option.Option.{Option}
 use Rattle.std.specs.declared.option.Option.the-variants.{Some, None}
 use Rattle.std.specs.declared.result.Result.{Result}
@@ -25,6 +26,10 @@ use Rattle.resolve.specs.Pair.{unlessFound}
 use Rattle.resolve.specs.Table.{firstOf}
 use Rattle.outcome.specs.declared.SessionRefusal.{SessionRefusal}
 use Rattle.outcome.specs.Faults.{Data, nothing, name, operator, path, code, value, Told, told as toldOf, refusalNumber}
+use Rattle.list.specs.declared.list_host.ListEntry.{ListEntry}
+use Rattle.list.specs.declared.value.ListValue.{ListValue}
+use Rattle.list.specs.Meaning.{listMeaning, nextAnswer, onward, unlessPresent}
+use Rattle.list.specs.Values.{valued, ofTruth, ofWhole}
 use Rattle.site.specs.declared.calls.TableHost.{TableHost}
 use Rattle.site.specs.declared.expr.SiteExpr.{SiteExpr}
 use Rattle.site.specs.declared.value.SiteValue.{SiteValue}
@@ -82,6 +87,7 @@ told n d line column = record { number = n; holds = d; at = record { line = line
 pub data HostOf : Type 0 where
   site : List SiteExpr → HostOf
   scripted : List EvalEntry → List AllowEntry → HostOf
+  listed : List ListEntry → HostOf
 
 pub record Sample : Type 0 where
   pub image : List ℕ
@@ -110,6 +116,18 @@ fromSite w.Unit = v.Unit
 fromSite (w.Truth b) = v.Truth b
 fromSite (w.Number n) = v.Number n
 fromSite (w.Range a b) = v.Range a b
+
+-- values of the list host among those of the scripted one
+abbrev pub toList : ScriptValue → ListValue
+toList v.Unit = valued 0
+toList (v.Truth b) = ofTruth b
+toList (v.Number (pos n)) = ofWhole n
+toList (v.Number (negsuc n)) = valued 0
+toList (v.Range a b) = valued 0
+toList (v.Seq k) = valued 0
+
+abbrev pub fromList : ListValue → ScriptValue
+fromList x = cond (eqb (x .0) 0) v.Unit (cond (eqb (x .0) 1) (v.Truth false) (cond (eqb (x .0) 2) (v.Truth true) (v.Number (pos (x .0 - 3)))))
 
 abbrev pub same : ScriptValue → ScriptValue
 same x = x
@@ -149,6 +167,32 @@ plainScript = record {
   path = scriptMeaning .path;
   item = scriptMeaning .item;
   caught = scriptMeaning .caught;
+}
+
+-- the list host over a plain list
+pub record Listing : Type 0 where
+  pub entries : List ListEntry
+  pub next : ℕ
+
+abbrev pub plainList : HostMeaning Listing ListValue
+plainList = record {
+  evaluate = λ s c seen. record {
+    state = record { entries = s .entries; next = onward (s .entries) (s .next) };
+    rows = seen .rows;
+    answer = nextAnswer (s .entries) (s .next);
+  };
+  allow = λ s d seen. record { state = s; rows = seen .rows; answer = unlessPresent (d .present) };
+  apply = listMeaning .apply;
+  binary = listMeaning .binary;
+  unit = listMeaning .unit;
+  makeTruth = listMeaning .makeTruth;
+  makeWhole = listMeaning .makeWhole;
+  isUnit = listMeaning .isUnit;
+  truth = listMeaning .truth;
+  whole = listMeaning .whole;
+  path = listMeaning .path;
+  item = listMeaning .item;
+  caught = listMeaning .caught;
 }
 
 abbrev pub plainSite : HostMeaning (TableHost (List SiteExpr)) SiteValue
@@ -223,12 +267,16 @@ siteOver exprs = record { table = exprs }
 abbrev pub scriptOver : List EvalEntry → List AllowEntry → Script
 scriptOver evals allows = record { evals = evals; allows = allows; evaluations = 0; declarations = 0 }
 
+abbrev pub listOver : List ListEntry → Listing
+listOver entries = record { entries = entries; next = 0 }
+
 abbrev pub playedBy : {S V : Type 0} → HostMeaning S V → (ScriptValue → V) → (V → ScriptValue) → S → Sample → List Shown
 playedBy m to from host s = session m to from (refusal m to from host s) host s
 
 abbrev pub played : HostOf → Sample → List Shown
 played (site exprs) s = playedBy plainSite toSite fromSite (siteOver exprs) s
 played (scripted evals allows) s = playedBy plainScript same same (scriptOver evals allows) s
+played (listed entries) s = playedBy plainList toList fromList (listOver entries) s
 
 -- every sample comes out as its row says
 abbrev pub Stands : List Sample → Type 0

@@ -9,6 +9,7 @@ use Rattle.rows.specs.Rows.{variable, import}
 use Rattle.resolve.specs.declared.resolver.Resolved.the-variants.{Module, NotFound}
 use Rattle.resolve.specs.declared.resolver.Resolved.the-variants as resolve
 use Rattle.outcome.specs.Faults.{nothing, name, operator, path, code, value}
+use Rattle.list.specs.declared.list_host.ListEntry.the-variants as entry
 use Rattle.site.specs.declared.expr.Operand.the-variants.{Constant, Variable}
 use Rattle.site.specs.declared.expr.SiteExpr.the-variants.{Operand, Add, Subtract, Less, Equal, Range}
 use Rattle.site.specs.declared.value.SiteValue.the-variants as w
@@ -17,7 +18,7 @@ use Rattle.script.specs.declared.answer.EvalAnswer.the-variants as eval
 use Rattle.script.specs.declared.effect.Effect.the-variants.{Append, Set, None as Nothing}
 use Rattle.script.specs.declared.value.ScriptValue.the-variants as v
 use Rattle.run.specs.Session.{put, read, rewind, run}
-use Rattle.samples.specs.Samples.{Sample, site, scripted, place, fault, evaluation, declaration, row, lend, passes, fails, refused, made, got, ran, told}
+use Rattle.samples.specs.Samples.{Sample, site, scripted, listed, place, fault, evaluation, declaration, row, lend, passes, fails, refused, made, got, ran, told}
 
 abbrev pub table : List Sample
 table =
@@ -291,6 +292,36 @@ table =
       check = (passes (Some 7));
       answers = ((ran (told 0 (value v.Unit) 0 0) 7 ((variable (place Rule 0 1) ReadWrite v.Unit) ∷ (variable (place Rule 1 1) ReadWrite v.Unit) ∷ []) []) ∷ []);
     }
+    ∷  -- allow-is-told-what-is-absent
+    record {
+      image = (82 ∷ 72 ∷ 83 ∷ 1 ∷ 0 ∷ 0 ∷ 1 ∷ 0 ∷ 1 ∷ 0 ∷ 1 ∷ 0 ∷ 9 ∷ 0 ∷ 0 ∷ 0 ∷ 1 ∷ 0 ∷ 4 ∷ 0 ∷ 1 ∷ 0 ∷ 1 ∷ 0 ∷ 0 ∷ 0 ∷ 0 ∷ 0 ∷ 0 ∷ 0 ∷ 0 ∷ 0 ∷ 1 ∷ 0 ∷ 0 ∷ 0 ∷ 0 ∷ 0 ∷ 0 ∷ 0 ∷ 1 ∷ 0 ∷ 5 ∷ 0 ∷ 0 ∷ 0 ∷ 97 ∷ 98 ∷ 99 ∷ 100 ∷ 101 ∷ 102 ∷ 97 ∷ 98 ∷ 99 ∷ []);
+      text = (97 ∷ 98 ∷ 99 ∷ 113 ∷ []);
+      operations = 100;
+      names = 10;
+      modules = 0;
+      host = (scripted [] ((declaration Nothing Nothing allow.Present) ∷ []));
+      first = [];
+      second = [];
+      opening = lend 128 16 64;
+      calls = ((lend 128 16 64, run false) ∷ []);
+      check = (passes (Some 2));
+      answers = ((ran (told 13 (name (place Rule 0 1)) 1 1) 1 [] []) ∷ []);
+    }
+    ∷  -- allow-is-told-what-is-constant
+    record {
+      image = (82 ∷ 72 ∷ 83 ∷ 1 ∷ 0 ∷ 0 ∷ 1 ∷ 0 ∷ 2 ∷ 0 ∷ 2 ∷ 0 ∷ 9 ∷ 0 ∷ 0 ∷ 0 ∷ 2 ∷ 0 ∷ 4 ∷ 1 ∷ 1 ∷ 0 ∷ 1 ∷ 0 ∷ 0 ∷ 0 ∷ 0 ∷ 0 ∷ 0 ∷ 0 ∷ 0 ∷ 0 ∷ 1 ∷ 0 ∷ 0 ∷ 0 ∷ 0 ∷ 0 ∷ 4 ∷ 0 ∷ 2 ∷ 0 ∷ 1 ∷ 0 ∷ 1 ∷ 0 ∷ 0 ∷ 0 ∷ 0 ∷ 0 ∷ 1 ∷ 0 ∷ 1 ∷ 0 ∷ 0 ∷ 0 ∷ 0 ∷ 0 ∷ 1 ∷ 0 ∷ 1 ∷ 0 ∷ 5 ∷ 0 ∷ 0 ∷ 0 ∷ 1 ∷ 0 ∷ 2 ∷ 0 ∷ 5 ∷ 0 ∷ 0 ∷ 0 ∷ 97 ∷ 98 ∷ 99 ∷ 100 ∷ 101 ∷ 102 ∷ 97 ∷ 98 ∷ 99 ∷ []);
+      text = (97 ∷ 98 ∷ 99 ∷ 113 ∷ []);
+      operations = 100;
+      names = 10;
+      modules = 0;
+      host = (scripted [] ((declaration Nothing Nothing allow.Constant) ∷ []));
+      first = [];
+      second = [];
+      opening = lend 128 16 64;
+      calls = ((lend 128 16 64, run false) ∷ []);
+      check = (passes (Some 4));
+      answers = ((ran (told 13 (name (place Rule 1 1)) 2 1) 3 ((variable (place Rule 0 1) ConstantAccess v.Unit) ∷ []) []) ∷ []);
+    }
     ∷  -- allow-comes-before-the-limit
     record {
       image = (82 ∷ 72 ∷ 83 ∷ 1 ∷ 0 ∷ 0 ∷ 1 ∷ 0 ∷ 1 ∷ 0 ∷ 1 ∷ 0 ∷ 9 ∷ 0 ∷ 0 ∷ 0 ∷ 1 ∷ 0 ∷ 4 ∷ 0 ∷ 1 ∷ 0 ∷ 1 ∷ 0 ∷ 0 ∷ 0 ∷ 0 ∷ 0 ∷ 0 ∷ 0 ∷ 0 ∷ 0 ∷ 1 ∷ 0 ∷ 0 ∷ 0 ∷ 0 ∷ 0 ∷ 0 ∷ 0 ∷ 1 ∷ 0 ∷ 5 ∷ 0 ∷ 0 ∷ 0 ∷ 97 ∷ 98 ∷ 99 ∷ 100 ∷ 101 ∷ 102 ∷ 97 ∷ 98 ∷ 99 ∷ []);
@@ -410,6 +441,21 @@ table =
       calls = ((lend 128 16 64, put 0 1 (v.Number (pos 1))) ∷ (lend 128 16 64, run false) ∷ (lend 128 16 64, read 0 1) ∷ []);
       check = (passes (Some 3));
       answers = (made ∷ (ran (told 0 (value v.Unit) 0 0) 3 ((variable (place Site 0 1) ReadWrite (v.Number (pos 3))) ∷ []) []) ∷ (got (Some (v.Number (pos 3)))) ∷ []);
+    }
+    ∷  -- assignment-to-the-last-of-two-names
+    record {
+      image = (82 ∷ 72 ∷ 83 ∷ 1 ∷ 0 ∷ 0 ∷ 1 ∷ 0 ∷ 2 ∷ 0 ∷ 2 ∷ 0 ∷ 9 ∷ 0 ∷ 0 ∷ 0 ∷ 2 ∷ 0 ∷ 4 ∷ 0 ∷ 1 ∷ 0 ∷ 1 ∷ 0 ∷ 0 ∷ 0 ∷ 0 ∷ 0 ∷ 0 ∷ 0 ∷ 0 ∷ 0 ∷ 1 ∷ 0 ∷ 0 ∷ 0 ∷ 0 ∷ 0 ∷ 3 ∷ 0 ∷ 2 ∷ 0 ∷ 1 ∷ 0 ∷ 1 ∷ 0 ∷ 0 ∷ 0 ∷ 0 ∷ 0 ∷ 0 ∷ 0 ∷ 1 ∷ 0 ∷ 0 ∷ 0 ∷ 0 ∷ 0 ∷ 0 ∷ 0 ∷ 1 ∷ 0 ∷ 5 ∷ 0 ∷ 0 ∷ 0 ∷ 0 ∷ 0 ∷ 2 ∷ 0 ∷ 5 ∷ 0 ∷ 0 ∷ 0 ∷ 97 ∷ 98 ∷ 99 ∷ 100 ∷ 101 ∷ 102 ∷ 97 ∷ 98 ∷ 99 ∷ []);
+      text = (97 ∷ 98 ∷ 99 ∷ 113 ∷ []);
+      operations = 100;
+      names = 10;
+      modules = 0;
+      host = (scripted ((evaluation Nothing Nothing (eval.Value (v.Number (pos 2)))) ∷ (evaluation Nothing Nothing (eval.Value (v.Number (pos 3)))) ∷ []) []);
+      first = [];
+      second = [];
+      opening = lend 128 16 64;
+      calls = ((lend 128 16 64, put 0 1 (v.Number (pos 1))) ∷ (lend 128 16 64, run false) ∷ (lend 128 16 64, read 0 1) ∷ []);
+      check = (passes (Some 5));
+      answers = (made ∷ (ran (told 0 (value v.Unit) 0 0) 5 ((variable (place Site 0 1) ReadWrite (v.Number (pos 1))) ∷ (variable (place Rule 0 1) ReadWrite (v.Number (pos 3))) ∷ []) []) ∷ (got (Some (v.Number (pos 3)))) ∷ []);
     }
     ∷  -- third-charge-of-an-assignment
     record {
@@ -726,6 +772,246 @@ table =
       check = (passes (Some 7));
       answers = ((ran (told 19 (name (place Rule 0 1)) 3 1) 7 ((variable (place Rule 0 1) ConstantAccess (v.Number (pos 5))) ∷ []) []) ∷ []);
     }
+    ∷  -- block-gives-its-value
+    record {
+      image = (82 ∷ 72 ∷ 83 ∷ 1 ∷ 0 ∷ 0 ∷ 2 ∷ 0 ∷ 2 ∷ 0 ∷ 1 ∷ 0 ∷ 9 ∷ 0 ∷ 0 ∷ 0 ∷ 1 ∷ 0 ∷ 1 ∷ 0 ∷ 1 ∷ 0 ∷ 2 ∷ 0 ∷ 1 ∷ 0 ∷ 1 ∷ 0 ∷ 0 ∷ 0 ∷ 1 ∷ 0 ∷ 0 ∷ 0 ∷ 0 ∷ 0 ∷ 0 ∷ 0 ∷ 0 ∷ 0 ∷ 0 ∷ 0 ∷ 1 ∷ 0 ∷ 2 ∷ 0 ∷ 1 ∷ 0 ∷ 0 ∷ 0 ∷ 0 ∷ 0 ∷ 0 ∷ 0 ∷ 0 ∷ 0 ∷ 0 ∷ 0 ∷ 0 ∷ 0 ∷ 0 ∷ 0 ∷ 0 ∷ 0 ∷ 2 ∷ 0 ∷ 5 ∷ 0 ∷ 0 ∷ 0 ∷ 97 ∷ 98 ∷ 99 ∷ 100 ∷ 101 ∷ 102 ∷ 97 ∷ 98 ∷ 99 ∷ []);
+      text = (97 ∷ 98 ∷ 99 ∷ 113 ∷ []);
+      operations = 50;
+      names = 10;
+      modules = 0;
+      host = (scripted ((evaluation Nothing Nothing (eval.Value (v.Number (pos 3)))) ∷ []) []);
+      first = [];
+      second = [];
+      opening = lend 128 16 64;
+      calls = ((lend 128 16 64, run false) ∷ []);
+      check = (passes (Some 3));
+      answers = ((ran (told 0 (value (v.Number (pos 3))) 0 0) 3 [] []) ∷ []);
+    }
+    ∷  -- empty-block-gives-unit
+    record {
+      image = (82 ∷ 72 ∷ 83 ∷ 1 ∷ 0 ∷ 0 ∷ 1 ∷ 0 ∷ 1 ∷ 0 ∷ 0 ∷ 0 ∷ 9 ∷ 0 ∷ 0 ∷ 0 ∷ 1 ∷ 0 ∷ 2 ∷ 0 ∷ 1 ∷ 0 ∷ 1 ∷ 0 ∷ 0 ∷ 0 ∷ 255 ∷ 255 ∷ 0 ∷ 0 ∷ 0 ∷ 0 ∷ 0 ∷ 0 ∷ 0 ∷ 0 ∷ 0 ∷ 0 ∷ 97 ∷ 98 ∷ 99 ∷ 100 ∷ 101 ∷ 102 ∷ 97 ∷ 98 ∷ 99 ∷ []);
+      text = (97 ∷ 98 ∷ 99 ∷ 113 ∷ []);
+      operations = 50;
+      names = 10;
+      modules = 0;
+      host = (site []);
+      first = [];
+      second = [];
+      opening = lend 128 16 64;
+      calls = ((lend 128 16 64, run false) ∷ []);
+      check = (passes (Some 1));
+      answers = ((ran (told 0 (value v.Unit) 0 0) 1 [] []) ∷ []);
+    }
+    ∷  -- noop-gives-unit-after-a-value
+    record {
+      image = (82 ∷ 72 ∷ 83 ∷ 1 ∷ 0 ∷ 0 ∷ 1 ∷ 0 ∷ 2 ∷ 0 ∷ 1 ∷ 0 ∷ 9 ∷ 0 ∷ 0 ∷ 0 ∷ 2 ∷ 0 ∷ 1 ∷ 0 ∷ 1 ∷ 0 ∷ 1 ∷ 0 ∷ 0 ∷ 0 ∷ 0 ∷ 0 ∷ 0 ∷ 0 ∷ 0 ∷ 0 ∷ 0 ∷ 0 ∷ 0 ∷ 0 ∷ 0 ∷ 0 ∷ 0 ∷ 0 ∷ 2 ∷ 0 ∷ 1 ∷ 0 ∷ 0 ∷ 0 ∷ 0 ∷ 0 ∷ 0 ∷ 0 ∷ 0 ∷ 0 ∷ 0 ∷ 0 ∷ 0 ∷ 0 ∷ 0 ∷ 0 ∷ 0 ∷ 0 ∷ 1 ∷ 0 ∷ 5 ∷ 0 ∷ 0 ∷ 0 ∷ 97 ∷ 98 ∷ 99 ∷ 100 ∷ 101 ∷ 102 ∷ 97 ∷ 98 ∷ 99 ∷ []);
+      text = (97 ∷ 98 ∷ 99 ∷ 113 ∷ []);
+      operations = 50;
+      names = 10;
+      modules = 0;
+      host = (scripted ((evaluation Nothing Nothing (eval.Value (v.Number (pos 3)))) ∷ []) []);
+      first = [];
+      second = [];
+      opening = lend 128 16 64;
+      calls = ((lend 128 16 64, run false) ∷ []);
+      check = (passes (Some 3));
+      answers = ((ran (told 0 (value v.Unit) 0 0) 3 [] []) ∷ []);
+    }
+    ∷  -- names-of-block-zero-stay-after-a-return
+    record {
+      image = (82 ∷ 72 ∷ 83 ∷ 1 ∷ 0 ∷ 0 ∷ 1 ∷ 0 ∷ 2 ∷ 0 ∷ 1 ∷ 0 ∷ 9 ∷ 0 ∷ 0 ∷ 0 ∷ 2 ∷ 0 ∷ 4 ∷ 0 ∷ 1 ∷ 0 ∷ 1 ∷ 0 ∷ 0 ∷ 0 ∷ 0 ∷ 0 ∷ 0 ∷ 0 ∷ 0 ∷ 0 ∷ 1 ∷ 0 ∷ 0 ∷ 0 ∷ 0 ∷ 0 ∷ 12 ∷ 0 ∷ 2 ∷ 0 ∷ 1 ∷ 0 ∷ 255 ∷ 255 ∷ 0 ∷ 0 ∷ 0 ∷ 0 ∷ 0 ∷ 0 ∷ 0 ∷ 0 ∷ 0 ∷ 0 ∷ 0 ∷ 0 ∷ 0 ∷ 0 ∷ 1 ∷ 0 ∷ 5 ∷ 0 ∷ 0 ∷ 0 ∷ 97 ∷ 98 ∷ 99 ∷ 100 ∷ 101 ∷ 102 ∷ 97 ∷ 98 ∷ 99 ∷ []);
+      text = (97 ∷ 98 ∷ 99 ∷ 113 ∷ []);
+      operations = 50;
+      names = 10;
+      modules = 0;
+      host = (scripted ((evaluation Nothing Nothing (eval.Value (v.Number (pos 1)))) ∷ []) []);
+      first = [];
+      second = [];
+      opening = lend 128 16 64;
+      calls = ((lend 128 16 64, run false) ∷ []);
+      check = (passes (Some 3));
+      answers = ((ran (told 0 (value v.Unit) 0 0) 3 ((variable (place Rule 0 1) ReadWrite (v.Number (pos 1))) ∷ []) []) ∷ []);
+    }
+    ∷  -- imports-of-block-zero-stay-after-a-throw
+    record {
+      image = (82 ∷ 72 ∷ 83 ∷ 1 ∷ 0 ∷ 0 ∷ 1 ∷ 0 ∷ 2 ∷ 0 ∷ 1 ∷ 0 ∷ 9 ∷ 0 ∷ 0 ∷ 0 ∷ 2 ∷ 0 ∷ 13 ∷ 0 ∷ 1 ∷ 0 ∷ 1 ∷ 0 ∷ 0 ∷ 0 ∷ 0 ∷ 0 ∷ 0 ∷ 0 ∷ 0 ∷ 0 ∷ 1 ∷ 0 ∷ 0 ∷ 0 ∷ 0 ∷ 0 ∷ 12 ∷ 8 ∷ 2 ∷ 0 ∷ 1 ∷ 0 ∷ 255 ∷ 255 ∷ 0 ∷ 0 ∷ 0 ∷ 0 ∷ 0 ∷ 0 ∷ 0 ∷ 0 ∷ 0 ∷ 0 ∷ 0 ∷ 0 ∷ 0 ∷ 0 ∷ 1 ∷ 0 ∷ 5 ∷ 0 ∷ 0 ∷ 0 ∷ 97 ∷ 98 ∷ 99 ∷ 100 ∷ 101 ∷ 102 ∷ 97 ∷ 98 ∷ 99 ∷ []);
+      text = (97 ∷ 98 ∷ 99 ∷ 113 ∷ []);
+      operations = 50;
+      names = 10;
+      modules = 1;
+      host = (scripted ((evaluation Nothing Nothing (eval.Value (v.Number (pos 1)))) ∷ []) []);
+      first = ((row 1 (Module 7)) ∷ []);
+      second = [];
+      opening = lend 128 16 64;
+      calls = ((lend 128 16 64, run false) ∷ []);
+      check = (passes (Some 3));
+      answers = ((ran (told 24 (value v.Unit) 2 1) 3 [] ((import (place Rule 0 1) 7) ∷ [])) ∷ []);
+    }
+    ∷  -- names-of-a-block-go-on-break
+    record {
+      image = (82 ∷ 72 ∷ 83 ∷ 1 ∷ 0 ∷ 0 ∷ 2 ∷ 0 ∷ 4 ∷ 0 ∷ 3 ∷ 0 ∷ 9 ∷ 0 ∷ 0 ∷ 0 ∷ 2 ∷ 0 ∷ 2 ∷ 0 ∷ 2 ∷ 0 ∷ 7 ∷ 0 ∷ 1 ∷ 0 ∷ 1 ∷ 0 ∷ 0 ∷ 0 ∷ 1 ∷ 0 ∷ 0 ∷ 0 ∷ 0 ∷ 0 ∷ 0 ∷ 0 ∷ 0 ∷ 0 ∷ 0 ∷ 0 ∷ 1 ∷ 0 ∷ 2 ∷ 0 ∷ 1 ∷ 0 ∷ 1 ∷ 0 ∷ 0 ∷ 0 ∷ 0 ∷ 0 ∷ 0 ∷ 0 ∷ 0 ∷ 0 ∷ 0 ∷ 0 ∷ 0 ∷ 0 ∷ 4 ∷ 0 ∷ 3 ∷ 0 ∷ 1 ∷ 0 ∷ 2 ∷ 0 ∷ 0 ∷ 0 ∷ 0 ∷ 0 ∷ 0 ∷ 0 ∷ 1 ∷ 0 ∷ 0 ∷ 0 ∷ 0 ∷ 0 ∷ 10 ∷ 8 ∷ 4 ∷ 0 ∷ 1 ∷ 0 ∷ 255 ∷ 255 ∷ 0 ∷ 0 ∷ 0 ∷ 0 ∷ 0 ∷ 0 ∷ 0 ∷ 0 ∷ 0 ∷ 0 ∷ 0 ∷ 0 ∷ 3 ∷ 0 ∷ 1 ∷ 0 ∷ 5 ∷ 0 ∷ 0 ∷ 0 ∷ 0 ∷ 0 ∷ 2 ∷ 0 ∷ 5 ∷ 0 ∷ 0 ∷ 0 ∷ 0 ∷ 0 ∷ 3 ∷ 0 ∷ 5 ∷ 0 ∷ 0 ∷ 0 ∷ 97 ∷ 98 ∷ 99 ∷ 100 ∷ 101 ∷ 102 ∷ 97 ∷ 98 ∷ 99 ∷ []);
+      text = (97 ∷ 98 ∷ 99 ∷ 113 ∷ []);
+      operations = 50;
+      names = 10;
+      modules = 0;
+      host = (scripted ((evaluation Nothing Nothing (eval.Value (v.Number (pos 1)))) ∷ (evaluation Nothing Nothing eval.Names) ∷ []) []);
+      first = [];
+      second = [];
+      opening = lend 128 16 64;
+      calls = ((lend 128 16 64, run false) ∷ []);
+      check = (passes None);
+      answers = ((ran (told 0 (value (v.Number (pos 0))) 0 0) 6 [] []) ∷ []);
+    }
+    ∷  -- names-of-a-block-go-on-continue
+    record {
+      image = (82 ∷ 72 ∷ 83 ∷ 1 ∷ 0 ∷ 0 ∷ 2 ∷ 0 ∷ 4 ∷ 0 ∷ 3 ∷ 0 ∷ 9 ∷ 0 ∷ 0 ∷ 0 ∷ 2 ∷ 0 ∷ 2 ∷ 0 ∷ 2 ∷ 0 ∷ 7 ∷ 0 ∷ 1 ∷ 0 ∷ 1 ∷ 0 ∷ 0 ∷ 0 ∷ 1 ∷ 0 ∷ 0 ∷ 0 ∷ 0 ∷ 0 ∷ 0 ∷ 0 ∷ 0 ∷ 0 ∷ 0 ∷ 0 ∷ 1 ∷ 0 ∷ 2 ∷ 0 ∷ 1 ∷ 0 ∷ 1 ∷ 0 ∷ 0 ∷ 0 ∷ 0 ∷ 0 ∷ 0 ∷ 0 ∷ 0 ∷ 0 ∷ 0 ∷ 0 ∷ 0 ∷ 0 ∷ 4 ∷ 0 ∷ 3 ∷ 0 ∷ 1 ∷ 0 ∷ 2 ∷ 0 ∷ 0 ∷ 0 ∷ 0 ∷ 0 ∷ 0 ∷ 0 ∷ 1 ∷ 0 ∷ 0 ∷ 0 ∷ 0 ∷ 0 ∷ 10 ∷ 0 ∷ 4 ∷ 0 ∷ 1 ∷ 0 ∷ 255 ∷ 255 ∷ 0 ∷ 0 ∷ 0 ∷ 0 ∷ 0 ∷ 0 ∷ 0 ∷ 0 ∷ 0 ∷ 0 ∷ 0 ∷ 0 ∷ 0 ∷ 0 ∷ 1 ∷ 0 ∷ 5 ∷ 0 ∷ 0 ∷ 0 ∷ 0 ∷ 0 ∷ 2 ∷ 0 ∷ 5 ∷ 0 ∷ 0 ∷ 0 ∷ 0 ∷ 0 ∷ 3 ∷ 0 ∷ 5 ∷ 0 ∷ 0 ∷ 0 ∷ 97 ∷ 98 ∷ 99 ∷ 100 ∷ 101 ∷ 102 ∷ 97 ∷ 98 ∷ 99 ∷ []);
+      text = (97 ∷ 98 ∷ 99 ∷ 113 ∷ []);
+      operations = 50;
+      names = 10;
+      modules = 0;
+      host = (scripted ((evaluation Nothing Nothing (eval.Value (v.Truth true))) ∷ (evaluation Nothing Nothing (eval.Value (v.Number (pos 1)))) ∷ (evaluation Nothing Nothing (eval.Value (v.Truth false))) ∷ (evaluation Nothing Nothing eval.Names) ∷ []) []);
+      first = [];
+      second = [];
+      opening = lend 128 16 64;
+      calls = ((lend 128 16 64, run false) ∷ []);
+      check = (passes None);
+      answers = ((ran (told 0 (value (v.Number (pos 0))) 0 0) 8 [] []) ∷ []);
+    }
+    ∷  -- block-of-an-empty-row
+    record {
+      image = (82 ∷ 72 ∷ 83 ∷ 1 ∷ 0 ∷ 0 ∷ 2 ∷ 0 ∷ 1 ∷ 0 ∷ 0 ∷ 0 ∷ 9 ∷ 0 ∷ 0 ∷ 0 ∷ 1 ∷ 0 ∷ 1 ∷ 0 ∷ 0 ∷ 0 ∷ 2 ∷ 0 ∷ 1 ∷ 0 ∷ 1 ∷ 0 ∷ 0 ∷ 0 ∷ 1 ∷ 0 ∷ 0 ∷ 0 ∷ 0 ∷ 0 ∷ 0 ∷ 0 ∷ 0 ∷ 0 ∷ 0 ∷ 0 ∷ 97 ∷ 98 ∷ 99 ∷ 100 ∷ 101 ∷ 102 ∷ 97 ∷ 98 ∷ 99 ∷ []);
+      text = (97 ∷ 98 ∷ 99 ∷ 113 ∷ []);
+      operations = 50;
+      names = 10;
+      modules = 0;
+      host = (site []);
+      first = [];
+      second = [];
+      opening = lend 128 16 64;
+      calls = ((lend 128 16 64, run false) ∷ []);
+      check = (passes (Some 1));
+      answers = ((ran (told 0 (value v.Unit) 0 0) 1 [] []) ∷ []);
+    }
+    ∷  -- if-with-an-empty-row
+    record {
+      image = (82 ∷ 72 ∷ 83 ∷ 1 ∷ 0 ∷ 0 ∷ 3 ∷ 0 ∷ 2 ∷ 0 ∷ 2 ∷ 0 ∷ 9 ∷ 0 ∷ 0 ∷ 0 ∷ 1 ∷ 0 ∷ 1 ∷ 0 ∷ 0 ∷ 0 ∷ 1 ∷ 0 ∷ 1 ∷ 0 ∷ 5 ∷ 0 ∷ 1 ∷ 0 ∷ 1 ∷ 0 ∷ 0 ∷ 0 ∷ 1 ∷ 0 ∷ 2 ∷ 0 ∷ 0 ∷ 0 ∷ 0 ∷ 0 ∷ 0 ∷ 0 ∷ 0 ∷ 0 ∷ 1 ∷ 0 ∷ 2 ∷ 0 ∷ 1 ∷ 0 ∷ 1 ∷ 0 ∷ 0 ∷ 0 ∷ 0 ∷ 0 ∷ 0 ∷ 0 ∷ 0 ∷ 0 ∷ 0 ∷ 0 ∷ 0 ∷ 0 ∷ 3 ∷ 0 ∷ 1 ∷ 0 ∷ 5 ∷ 0 ∷ 0 ∷ 0 ∷ 0 ∷ 0 ∷ 2 ∷ 0 ∷ 5 ∷ 0 ∷ 0 ∷ 0 ∷ 97 ∷ 98 ∷ 99 ∷ 100 ∷ 101 ∷ 102 ∷ 97 ∷ 98 ∷ 99 ∷ []);
+      text = (97 ∷ 98 ∷ 99 ∷ 113 ∷ []);
+      operations = 50;
+      names = 10;
+      modules = 0;
+      host = (scripted ((evaluation Nothing Nothing (eval.Value (v.Number (pos 3)))) ∷ []) []);
+      first = [];
+      second = [];
+      opening = lend 128 16 64;
+      calls = ((lend 128 16 64, run false) ∷ []);
+      check = (passes (Some 4));
+      answers = ((ran (told 0 (value v.Unit) 0 0) 2 [] []) ∷ []);
+    }
+    ∷  -- endless-while-with-an-empty-row
+    record {
+      image = (82 ∷ 72 ∷ 83 ∷ 1 ∷ 0 ∷ 0 ∷ 2 ∷ 0 ∷ 1 ∷ 0 ∷ 1 ∷ 0 ∷ 9 ∷ 0 ∷ 0 ∷ 0 ∷ 1 ∷ 0 ∷ 1 ∷ 0 ∷ 0 ∷ 0 ∷ 7 ∷ 0 ∷ 1 ∷ 0 ∷ 1 ∷ 0 ∷ 0 ∷ 0 ∷ 1 ∷ 0 ∷ 0 ∷ 0 ∷ 0 ∷ 0 ∷ 0 ∷ 0 ∷ 0 ∷ 0 ∷ 0 ∷ 0 ∷ 3 ∷ 0 ∷ 1 ∷ 0 ∷ 5 ∷ 0 ∷ 0 ∷ 0 ∷ 97 ∷ 98 ∷ 99 ∷ 100 ∷ 101 ∷ 102 ∷ 97 ∷ 98 ∷ 99 ∷ []);
+      text = (97 ∷ 98 ∷ 99 ∷ 113 ∷ []);
+      operations = 5;
+      names = 10;
+      modules = 0;
+      host = (site []);
+      first = [];
+      second = [];
+      opening = lend 128 16 64;
+      calls = ((lend 128 16 64, run false) ∷ []);
+      check = (passes None);
+      answers = ((ran (told 12 nothing 1 1) 6 [] []) ∷ []);
+    }
+    ∷  -- for-with-an-empty-row
+    record {
+      image = (82 ∷ 72 ∷ 83 ∷ 1 ∷ 0 ∷ 0 ∷ 2 ∷ 0 ∷ 1 ∷ 0 ∷ 1 ∷ 0 ∷ 9 ∷ 0 ∷ 0 ∷ 0 ∷ 1 ∷ 0 ∷ 1 ∷ 0 ∷ 0 ∷ 0 ∷ 9 ∷ 0 ∷ 1 ∷ 0 ∷ 1 ∷ 0 ∷ 0 ∷ 0 ∷ 1 ∷ 0 ∷ 0 ∷ 0 ∷ 0 ∷ 0 ∷ 1 ∷ 0 ∷ 0 ∷ 0 ∷ 0 ∷ 0 ∷ 0 ∷ 0 ∷ 1 ∷ 0 ∷ 5 ∷ 0 ∷ 0 ∷ 0 ∷ 97 ∷ 98 ∷ 99 ∷ 100 ∷ 101 ∷ 102 ∷ 97 ∷ 98 ∷ 99 ∷ []);
+      text = (97 ∷ 98 ∷ 99 ∷ 113 ∷ []);
+      operations = 50;
+      names = 10;
+      modules = 0;
+      host = (scripted ((evaluation Nothing Nothing (eval.Value (v.Seq 2))) ∷ []) []);
+      first = [];
+      second = [];
+      opening = lend 128 16 64;
+      calls = ((lend 128 16 64, run false) ∷ []);
+      check = (passes None);
+      answers = ((ran (told 0 (value v.Unit) 0 0) 4 [] []) ∷ []);
+    }
+    ∷  -- catch-with-an-empty-row
+    record {
+      image = (82 ∷ 72 ∷ 83 ∷ 1 ∷ 0 ∷ 0 ∷ 3 ∷ 0 ∷ 2 ∷ 0 ∷ 0 ∷ 0 ∷ 9 ∷ 0 ∷ 0 ∷ 0 ∷ 1 ∷ 0 ∷ 1 ∷ 0 ∷ 1 ∷ 0 ∷ 2 ∷ 0 ∷ 0 ∷ 0 ∷ 11 ∷ 0 ∷ 1 ∷ 0 ∷ 1 ∷ 0 ∷ 0 ∷ 0 ∷ 1 ∷ 0 ∷ 2 ∷ 0 ∷ 0 ∷ 0 ∷ 0 ∷ 0 ∷ 0 ∷ 0 ∷ 0 ∷ 0 ∷ 12 ∷ 8 ∷ 2 ∷ 0 ∷ 1 ∷ 0 ∷ 255 ∷ 255 ∷ 0 ∷ 0 ∷ 0 ∷ 0 ∷ 0 ∷ 0 ∷ 0 ∷ 0 ∷ 0 ∷ 0 ∷ 0 ∷ 0 ∷ 97 ∷ 98 ∷ 99 ∷ 100 ∷ 101 ∷ 102 ∷ 97 ∷ 98 ∷ 99 ∷ []);
+      text = (97 ∷ 98 ∷ 99 ∷ 113 ∷ []);
+      operations = 50;
+      names = 10;
+      modules = 0;
+      host = (site []);
+      first = [];
+      second = [];
+      opening = lend 128 16 64;
+      calls = ((lend 128 16 64, run false) ∷ []);
+      check = (passes (Some 2));
+      answers = ((ran (told 0 (value v.Unit) 0 0) 2 [] []) ∷ []);
+    }
+    ∷  -- level-of-block-zero
+    record {
+      image = (82 ∷ 72 ∷ 83 ∷ 1 ∷ 0 ∷ 0 ∷ 1 ∷ 0 ∷ 1 ∷ 0 ∷ 1 ∷ 0 ∷ 9 ∷ 0 ∷ 0 ∷ 0 ∷ 1 ∷ 0 ∷ 4 ∷ 0 ∷ 1 ∷ 0 ∷ 1 ∷ 0 ∷ 0 ∷ 0 ∷ 0 ∷ 0 ∷ 0 ∷ 0 ∷ 0 ∷ 0 ∷ 1 ∷ 0 ∷ 0 ∷ 0 ∷ 0 ∷ 0 ∷ 0 ∷ 0 ∷ 1 ∷ 0 ∷ 5 ∷ 0 ∷ 0 ∷ 0 ∷ 97 ∷ 98 ∷ 99 ∷ 100 ∷ 101 ∷ 102 ∷ 97 ∷ 98 ∷ 99 ∷ []);
+      text = (97 ∷ 98 ∷ 99 ∷ 113 ∷ []);
+      operations = 50;
+      names = 10;
+      modules = 0;
+      host = (scripted [] ((declaration Nothing Nothing (allow.Level 0)) ∷ []));
+      first = [];
+      second = [];
+      opening = lend 128 16 64;
+      calls = ((lend 128 16 64, run false) ∷ []);
+      check = (passes (Some 2));
+      answers = ((ran (told 0 (value v.Unit) 0 0) 2 ((variable (place Rule 0 1) ReadWrite v.Unit) ∷ []) []) ∷ []);
+    }
+    ∷  -- level-in-a-for
+    record {
+      image = (82 ∷ 72 ∷ 83 ∷ 1 ∷ 0 ∷ 0 ∷ 2 ∷ 0 ∷ 2 ∷ 0 ∷ 2 ∷ 0 ∷ 9 ∷ 0 ∷ 0 ∷ 0 ∷ 1 ∷ 0 ∷ 1 ∷ 0 ∷ 1 ∷ 0 ∷ 9 ∷ 0 ∷ 1 ∷ 0 ∷ 1 ∷ 0 ∷ 0 ∷ 0 ∷ 1 ∷ 0 ∷ 0 ∷ 0 ∷ 1 ∷ 0 ∷ 1 ∷ 0 ∷ 0 ∷ 0 ∷ 0 ∷ 0 ∷ 4 ∷ 0 ∷ 2 ∷ 0 ∷ 1 ∷ 0 ∷ 1 ∷ 0 ∷ 0 ∷ 0 ∷ 0 ∷ 0 ∷ 0 ∷ 0 ∷ 1 ∷ 0 ∷ 0 ∷ 0 ∷ 0 ∷ 0 ∷ 0 ∷ 0 ∷ 1 ∷ 0 ∷ 5 ∷ 0 ∷ 0 ∷ 0 ∷ 0 ∷ 0 ∷ 2 ∷ 0 ∷ 5 ∷ 0 ∷ 0 ∷ 0 ∷ 97 ∷ 98 ∷ 99 ∷ 100 ∷ 101 ∷ 102 ∷ 97 ∷ 98 ∷ 99 ∷ []);
+      text = (97 ∷ 98 ∷ 99 ∷ 113 ∷ []);
+      operations = 50;
+      names = 10;
+      modules = 0;
+      host = (scripted ((evaluation Nothing Nothing (eval.Value (v.Seq 1))) ∷ []) ((declaration Nothing Nothing (allow.Level 1)) ∷ []));
+      first = [];
+      second = [];
+      opening = lend 128 16 64;
+      calls = ((lend 128 16 64, run false) ∷ []);
+      check = (passes None);
+      answers = ((ran (told 0 (value v.Unit) 0 0) 4 [] []) ∷ []);
+    }
+    ∷  -- level-in-a-catch
+    record {
+      image = (82 ∷ 72 ∷ 83 ∷ 1 ∷ 0 ∷ 0 ∷ 3 ∷ 0 ∷ 3 ∷ 0 ∷ 1 ∷ 0 ∷ 9 ∷ 0 ∷ 0 ∷ 0 ∷ 1 ∷ 0 ∷ 1 ∷ 0 ∷ 1 ∷ 0 ∷ 2 ∷ 0 ∷ 1 ∷ 0 ∷ 11 ∷ 0 ∷ 1 ∷ 0 ∷ 1 ∷ 0 ∷ 0 ∷ 0 ∷ 1 ∷ 0 ∷ 2 ∷ 0 ∷ 4 ∷ 0 ∷ 1 ∷ 0 ∷ 0 ∷ 0 ∷ 0 ∷ 0 ∷ 12 ∷ 8 ∷ 2 ∷ 0 ∷ 1 ∷ 0 ∷ 255 ∷ 255 ∷ 0 ∷ 0 ∷ 0 ∷ 0 ∷ 0 ∷ 0 ∷ 0 ∷ 0 ∷ 0 ∷ 0 ∷ 0 ∷ 0 ∷ 4 ∷ 0 ∷ 3 ∷ 0 ∷ 1 ∷ 0 ∷ 0 ∷ 0 ∷ 0 ∷ 0 ∷ 0 ∷ 0 ∷ 0 ∷ 0 ∷ 1 ∷ 0 ∷ 0 ∷ 0 ∷ 0 ∷ 0 ∷ 0 ∷ 0 ∷ 3 ∷ 0 ∷ 5 ∷ 0 ∷ 0 ∷ 0 ∷ 97 ∷ 98 ∷ 99 ∷ 100 ∷ 101 ∷ 102 ∷ 97 ∷ 98 ∷ 99 ∷ []);
+      text = (97 ∷ 98 ∷ 99 ∷ 113 ∷ []);
+      operations = 50;
+      names = 10;
+      modules = 0;
+      host = (scripted [] ((declaration Nothing Nothing (allow.Level 1)) ∷ []));
+      first = [];
+      second = [];
+      opening = lend 128 16 64;
+      calls = ((lend 128 16 64, run false) ∷ []);
+      check = (passes (Some 4));
+      answers = ((ran (told 0 (value v.Unit) 0 0) 4 [] []) ∷ []);
+    }
+    ∷  -- level-after-a-fault-in-a-block
+    record {
+      image = (82 ∷ 72 ∷ 83 ∷ 1 ∷ 0 ∷ 0 ∷ 2 ∷ 0 ∷ 3 ∷ 0 ∷ 1 ∷ 0 ∷ 9 ∷ 0 ∷ 0 ∷ 0 ∷ 2 ∷ 0 ∷ 2 ∷ 0 ∷ 1 ∷ 0 ∷ 11 ∷ 0 ∷ 1 ∷ 0 ∷ 1 ∷ 0 ∷ 0 ∷ 0 ∷ 1 ∷ 0 ∷ 255 ∷ 255 ∷ 0 ∷ 0 ∷ 0 ∷ 0 ∷ 0 ∷ 0 ∷ 0 ∷ 0 ∷ 4 ∷ 0 ∷ 2 ∷ 0 ∷ 1 ∷ 0 ∷ 0 ∷ 0 ∷ 0 ∷ 0 ∷ 0 ∷ 0 ∷ 0 ∷ 0 ∷ 1 ∷ 0 ∷ 0 ∷ 0 ∷ 0 ∷ 0 ∷ 12 ∷ 8 ∷ 3 ∷ 0 ∷ 1 ∷ 0 ∷ 255 ∷ 255 ∷ 0 ∷ 0 ∷ 0 ∷ 0 ∷ 0 ∷ 0 ∷ 0 ∷ 0 ∷ 0 ∷ 0 ∷ 0 ∷ 0 ∷ 0 ∷ 0 ∷ 2 ∷ 0 ∷ 5 ∷ 0 ∷ 0 ∷ 0 ∷ 97 ∷ 98 ∷ 99 ∷ 100 ∷ 101 ∷ 102 ∷ 97 ∷ 98 ∷ 99 ∷ []);
+      text = (97 ∷ 98 ∷ 99 ∷ 113 ∷ []);
+      operations = 50;
+      names = 10;
+      modules = 0;
+      host = (scripted [] ((declaration Nothing Nothing (allow.Level 0)) ∷ []));
+      first = [];
+      second = [];
+      opening = lend 128 16 64;
+      calls = ((lend 128 16 64, run false) ∷ []);
+      check = (passes (Some 4));
+      answers = ((ran (told 0 (value v.Unit) 0 0) 4 ((variable (place Rule 0 1) ReadWrite v.Unit) ∷ []) []) ∷ []);
+    }
     ∷  -- endless-while-with-empty-body
     record {
       image = (82 ∷ 72 ∷ 83 ∷ 1 ∷ 0 ∷ 0 ∷ 1 ∷ 0 ∷ 1 ∷ 0 ∷ 1 ∷ 0 ∷ 9 ∷ 0 ∷ 0 ∷ 0 ∷ 1 ∷ 0 ∷ 7 ∷ 0 ∷ 1 ∷ 0 ∷ 1 ∷ 0 ∷ 0 ∷ 0 ∷ 255 ∷ 255 ∷ 0 ∷ 0 ∷ 0 ∷ 0 ∷ 0 ∷ 0 ∷ 0 ∷ 0 ∷ 0 ∷ 0 ∷ 3 ∷ 0 ∷ 1 ∷ 0 ∷ 5 ∷ 0 ∷ 0 ∷ 0 ∷ 97 ∷ 98 ∷ 99 ∷ 100 ∷ 101 ∷ 102 ∷ 97 ∷ 98 ∷ 99 ∷ []);
@@ -875,6 +1161,96 @@ table =
       calls = ((lend 128 16 64, run false) ∷ []);
       check = (passes None);
       answers = ((ran (told 0 (value (v.Number (pos 8))) 0 0) 6 [] []) ∷ []);
+    }
+    ∷  -- continue-through-try-and-catch
+    record {
+      image = (82 ∷ 72 ∷ 83 ∷ 1 ∷ 0 ∷ 0 ∷ 6 ∷ 0 ∷ 7 ∷ 0 ∷ 1 ∷ 0 ∷ 9 ∷ 0 ∷ 0 ∷ 0 ∷ 1 ∷ 0 ∷ 1 ∷ 0 ∷ 2 ∷ 0 ∷ 3 ∷ 0 ∷ 1 ∷ 0 ∷ 4 ∷ 0 ∷ 1 ∷ 0 ∷ 5 ∷ 0 ∷ 1 ∷ 0 ∷ 6 ∷ 0 ∷ 1 ∷ 0 ∷ 7 ∷ 0 ∷ 1 ∷ 0 ∷ 1 ∷ 0 ∷ 0 ∷ 0 ∷ 1 ∷ 0 ∷ 0 ∷ 0 ∷ 0 ∷ 0 ∷ 0 ∷ 0 ∷ 0 ∷ 0 ∷ 0 ∷ 0 ∷ 11 ∷ 0 ∷ 2 ∷ 0 ∷ 1 ∷ 0 ∷ 0 ∷ 0 ∷ 2 ∷ 0 ∷ 3 ∷ 0 ∷ 4 ∷ 0 ∷ 1 ∷ 0 ∷ 0 ∷ 0 ∷ 0 ∷ 0 ∷ 12 ∷ 0 ∷ 3 ∷ 0 ∷ 1 ∷ 0 ∷ 255 ∷ 255 ∷ 0 ∷ 0 ∷ 0 ∷ 0 ∷ 0 ∷ 0 ∷ 0 ∷ 0 ∷ 0 ∷ 0 ∷ 0 ∷ 0 ∷ 12 ∷ 8 ∷ 4 ∷ 0 ∷ 1 ∷ 0 ∷ 255 ∷ 255 ∷ 0 ∷ 0 ∷ 0 ∷ 0 ∷ 0 ∷ 0 ∷ 0 ∷ 0 ∷ 0 ∷ 0 ∷ 0 ∷ 0 ∷ 11 ∷ 0 ∷ 5 ∷ 0 ∷ 1 ∷ 0 ∷ 0 ∷ 0 ∷ 4 ∷ 0 ∷ 5 ∷ 0 ∷ 0 ∷ 0 ∷ 0 ∷ 0 ∷ 0 ∷ 0 ∷ 0 ∷ 0 ∷ 10 ∷ 0 ∷ 6 ∷ 0 ∷ 1 ∷ 0 ∷ 255 ∷ 255 ∷ 0 ∷ 0 ∷ 0 ∷ 0 ∷ 0 ∷ 0 ∷ 0 ∷ 0 ∷ 0 ∷ 0 ∷ 0 ∷ 0 ∷ 0 ∷ 0 ∷ 7 ∷ 0 ∷ 1 ∷ 0 ∷ 0 ∷ 0 ∷ 0 ∷ 0 ∷ 0 ∷ 0 ∷ 0 ∷ 0 ∷ 0 ∷ 0 ∷ 0 ∷ 0 ∷ 0 ∷ 0 ∷ 0 ∷ 0 ∷ 1 ∷ 0 ∷ 5 ∷ 0 ∷ 0 ∷ 0 ∷ 97 ∷ 98 ∷ 99 ∷ 100 ∷ 101 ∷ 102 ∷ 97 ∷ 98 ∷ 99 ∷ []);
+      text = (97 ∷ 98 ∷ 99 ∷ 113 ∷ []);
+      operations = 50;
+      names = 10;
+      modules = 0;
+      host = (scripted ((evaluation Nothing Nothing (eval.Value (v.Truth true))) ∷ (evaluation Nothing Nothing (eval.Value (v.Truth false))) ∷ []) []);
+      first = [];
+      second = [];
+      opening = lend 128 16 64;
+      calls = ((lend 128 16 64, run false) ∷ []);
+      check = (passes None);
+      answers = ((ran (told 0 (value v.Unit) 0 0) 7 [] []) ∷ []);
+    }
+    ∷  -- while-gives-unit-after-a-value
+    record {
+      image = (82 ∷ 72 ∷ 83 ∷ 1 ∷ 0 ∷ 0 ∷ 2 ∷ 0 ∷ 2 ∷ 0 ∷ 2 ∷ 0 ∷ 9 ∷ 0 ∷ 0 ∷ 0 ∷ 1 ∷ 0 ∷ 1 ∷ 0 ∷ 1 ∷ 0 ∷ 7 ∷ 0 ∷ 1 ∷ 0 ∷ 1 ∷ 0 ∷ 0 ∷ 0 ∷ 1 ∷ 0 ∷ 0 ∷ 0 ∷ 0 ∷ 0 ∷ 0 ∷ 0 ∷ 0 ∷ 0 ∷ 0 ∷ 0 ∷ 1 ∷ 0 ∷ 2 ∷ 0 ∷ 1 ∷ 0 ∷ 1 ∷ 0 ∷ 0 ∷ 0 ∷ 0 ∷ 0 ∷ 0 ∷ 0 ∷ 0 ∷ 0 ∷ 0 ∷ 0 ∷ 0 ∷ 0 ∷ 0 ∷ 0 ∷ 1 ∷ 0 ∷ 5 ∷ 0 ∷ 0 ∷ 0 ∷ 0 ∷ 0 ∷ 2 ∷ 0 ∷ 5 ∷ 0 ∷ 0 ∷ 0 ∷ 97 ∷ 98 ∷ 99 ∷ 100 ∷ 101 ∷ 102 ∷ 97 ∷ 98 ∷ 99 ∷ []);
+      text = (97 ∷ 98 ∷ 99 ∷ 113 ∷ []);
+      operations = 50;
+      names = 10;
+      modules = 0;
+      host = (scripted ((evaluation Nothing Nothing (eval.Value (v.Truth true))) ∷ (evaluation Nothing Nothing (eval.Value (v.Number (pos 3)))) ∷ (evaluation Nothing Nothing (eval.Value (v.Truth false))) ∷ []) []);
+      first = [];
+      second = [];
+      opening = lend 128 16 64;
+      calls = ((lend 128 16 64, run false) ∷ []);
+      check = (passes None);
+      answers = ((ran (told 0 (value v.Unit) 0 0) 5 [] []) ∷ []);
+    }
+    ∷  -- do-gives-unit-after-a-value
+    record {
+      image = (82 ∷ 72 ∷ 83 ∷ 1 ∷ 0 ∷ 0 ∷ 2 ∷ 0 ∷ 2 ∷ 0 ∷ 2 ∷ 0 ∷ 9 ∷ 0 ∷ 0 ∷ 0 ∷ 1 ∷ 0 ∷ 1 ∷ 0 ∷ 1 ∷ 0 ∷ 8 ∷ 0 ∷ 1 ∷ 0 ∷ 1 ∷ 0 ∷ 0 ∷ 0 ∷ 1 ∷ 0 ∷ 0 ∷ 0 ∷ 0 ∷ 0 ∷ 0 ∷ 0 ∷ 0 ∷ 0 ∷ 0 ∷ 0 ∷ 1 ∷ 0 ∷ 2 ∷ 0 ∷ 1 ∷ 0 ∷ 1 ∷ 0 ∷ 0 ∷ 0 ∷ 0 ∷ 0 ∷ 0 ∷ 0 ∷ 0 ∷ 0 ∷ 0 ∷ 0 ∷ 0 ∷ 0 ∷ 0 ∷ 0 ∷ 1 ∷ 0 ∷ 5 ∷ 0 ∷ 0 ∷ 0 ∷ 0 ∷ 0 ∷ 2 ∷ 0 ∷ 5 ∷ 0 ∷ 0 ∷ 0 ∷ 97 ∷ 98 ∷ 99 ∷ 100 ∷ 101 ∷ 102 ∷ 97 ∷ 98 ∷ 99 ∷ []);
+      text = (97 ∷ 98 ∷ 99 ∷ 113 ∷ []);
+      operations = 50;
+      names = 10;
+      modules = 0;
+      host = (scripted ((evaluation Nothing Nothing (eval.Value (v.Number (pos 3)))) ∷ (evaluation Nothing Nothing (eval.Value (v.Truth false))) ∷ []) []);
+      first = [];
+      second = [];
+      opening = lend 128 16 64;
+      calls = ((lend 128 16 64, run false) ∷ []);
+      check = (passes None);
+      answers = ((ran (told 0 (value v.Unit) 0 0) 4 [] []) ∷ []);
+    }
+    ∷  -- for-gives-unit-after-a-value
+    record {
+      image = (82 ∷ 72 ∷ 83 ∷ 1 ∷ 0 ∷ 0 ∷ 2 ∷ 0 ∷ 2 ∷ 0 ∷ 2 ∷ 0 ∷ 9 ∷ 0 ∷ 0 ∷ 0 ∷ 1 ∷ 0 ∷ 1 ∷ 0 ∷ 1 ∷ 0 ∷ 9 ∷ 0 ∷ 1 ∷ 0 ∷ 1 ∷ 0 ∷ 0 ∷ 0 ∷ 1 ∷ 0 ∷ 0 ∷ 0 ∷ 0 ∷ 0 ∷ 1 ∷ 0 ∷ 0 ∷ 0 ∷ 0 ∷ 0 ∷ 1 ∷ 0 ∷ 2 ∷ 0 ∷ 1 ∷ 0 ∷ 1 ∷ 0 ∷ 0 ∷ 0 ∷ 0 ∷ 0 ∷ 0 ∷ 0 ∷ 0 ∷ 0 ∷ 0 ∷ 0 ∷ 0 ∷ 0 ∷ 0 ∷ 0 ∷ 1 ∷ 0 ∷ 5 ∷ 0 ∷ 0 ∷ 0 ∷ 0 ∷ 0 ∷ 2 ∷ 0 ∷ 5 ∷ 0 ∷ 0 ∷ 0 ∷ 97 ∷ 98 ∷ 99 ∷ 100 ∷ 101 ∷ 102 ∷ 97 ∷ 98 ∷ 99 ∷ []);
+      text = (97 ∷ 98 ∷ 99 ∷ 113 ∷ []);
+      operations = 50;
+      names = 10;
+      modules = 0;
+      host = (scripted ((evaluation Nothing Nothing (eval.Value (v.Seq 1))) ∷ (evaluation Nothing Nothing (eval.Value (v.Number (pos 3)))) ∷ []) []);
+      first = [];
+      second = [];
+      opening = lend 128 16 64;
+      calls = ((lend 128 16 64, run false) ∷ []);
+      check = (passes None);
+      answers = ((ran (told 0 (value v.Unit) 0 0) 4 [] []) ∷ []);
+    }
+    ∷  -- do-evaluates-a-constant-condition
+    record {
+      image = (82 ∷ 72 ∷ 83 ∷ 1 ∷ 0 ∷ 0 ∷ 1 ∷ 0 ∷ 1 ∷ 0 ∷ 1 ∷ 0 ∷ 9 ∷ 0 ∷ 0 ∷ 0 ∷ 1 ∷ 0 ∷ 8 ∷ 0 ∷ 1 ∷ 0 ∷ 1 ∷ 0 ∷ 0 ∷ 0 ∷ 255 ∷ 255 ∷ 0 ∷ 0 ∷ 0 ∷ 0 ∷ 0 ∷ 0 ∷ 0 ∷ 0 ∷ 0 ∷ 0 ∷ 3 ∷ 0 ∷ 1 ∷ 0 ∷ 5 ∷ 0 ∷ 0 ∷ 0 ∷ 97 ∷ 98 ∷ 99 ∷ 100 ∷ 101 ∷ 102 ∷ 97 ∷ 98 ∷ 99 ∷ []);
+      text = (97 ∷ 98 ∷ 99 ∷ 113 ∷ []);
+      operations = 3;
+      names = 10;
+      modules = 0;
+      host = (site []);
+      first = [];
+      second = [];
+      opening = lend 128 16 64;
+      calls = ((lend 128 16 64, run false) ∷ []);
+      check = (passes None);
+      answers = ((ran (told 12 nothing 1 5) 4 [] []) ∷ []);
+    }
+    ∷  -- do-broken-with-a-value
+    record {
+      image = (82 ∷ 72 ∷ 83 ∷ 1 ∷ 0 ∷ 0 ∷ 2 ∷ 0 ∷ 2 ∷ 0 ∷ 2 ∷ 0 ∷ 9 ∷ 0 ∷ 0 ∷ 0 ∷ 1 ∷ 0 ∷ 1 ∷ 0 ∷ 1 ∷ 0 ∷ 8 ∷ 0 ∷ 1 ∷ 0 ∷ 1 ∷ 0 ∷ 0 ∷ 0 ∷ 1 ∷ 0 ∷ 0 ∷ 0 ∷ 0 ∷ 0 ∷ 0 ∷ 0 ∷ 0 ∷ 0 ∷ 0 ∷ 0 ∷ 10 ∷ 8 ∷ 2 ∷ 0 ∷ 1 ∷ 0 ∷ 1 ∷ 0 ∷ 0 ∷ 0 ∷ 0 ∷ 0 ∷ 0 ∷ 0 ∷ 0 ∷ 0 ∷ 0 ∷ 0 ∷ 0 ∷ 0 ∷ 3 ∷ 0 ∷ 1 ∷ 0 ∷ 5 ∷ 0 ∷ 0 ∷ 0 ∷ 0 ∷ 0 ∷ 2 ∷ 0 ∷ 5 ∷ 0 ∷ 0 ∷ 0 ∷ 97 ∷ 98 ∷ 99 ∷ 100 ∷ 101 ∷ 102 ∷ 97 ∷ 98 ∷ 99 ∷ []);
+      text = (97 ∷ 98 ∷ 99 ∷ 113 ∷ []);
+      operations = 50;
+      names = 10;
+      modules = 0;
+      host = (scripted ((evaluation Nothing Nothing (eval.Value (v.Number (pos 3)))) ∷ []) []);
+      first = [];
+      second = [];
+      opening = lend 128 16 64;
+      calls = ((lend 128 16 64, run false) ∷ []);
+      check = (passes None);
+      answers = ((ran (told 0 (value (v.Number (pos 3))) 0 0) 3 [] []) ∷ []);
     }
     ∷  -- names-of-a-round-go
     record {
@@ -1641,6 +2017,171 @@ table =
       check = (passes (Some 5));
       answers = ((ran (told 14 nothing 3 1) 4 [] []) ∷ []);
     }
+    ∷  -- operations-cannot-be-caught
+    record {
+      image = (82 ∷ 72 ∷ 83 ∷ 1 ∷ 0 ∷ 0 ∷ 2 ∷ 0 ∷ 3 ∷ 0 ∷ 0 ∷ 0 ∷ 9 ∷ 0 ∷ 0 ∷ 0 ∷ 1 ∷ 0 ∷ 1 ∷ 0 ∷ 2 ∷ 0 ∷ 11 ∷ 0 ∷ 1 ∷ 0 ∷ 1 ∷ 0 ∷ 0 ∷ 0 ∷ 1 ∷ 0 ∷ 255 ∷ 255 ∷ 0 ∷ 0 ∷ 0 ∷ 0 ∷ 0 ∷ 0 ∷ 0 ∷ 0 ∷ 0 ∷ 0 ∷ 2 ∷ 0 ∷ 1 ∷ 0 ∷ 0 ∷ 0 ∷ 0 ∷ 0 ∷ 0 ∷ 0 ∷ 0 ∷ 0 ∷ 0 ∷ 0 ∷ 0 ∷ 0 ∷ 0 ∷ 0 ∷ 0 ∷ 0 ∷ 3 ∷ 0 ∷ 1 ∷ 0 ∷ 0 ∷ 0 ∷ 0 ∷ 0 ∷ 0 ∷ 0 ∷ 0 ∷ 0 ∷ 0 ∷ 0 ∷ 0 ∷ 0 ∷ 0 ∷ 0 ∷ 97 ∷ 98 ∷ 99 ∷ 100 ∷ 101 ∷ 102 ∷ 97 ∷ 98 ∷ 99 ∷ []);
+      text = (97 ∷ 98 ∷ 99 ∷ 113 ∷ []);
+      operations = 2;
+      names = 10;
+      modules = 0;
+      host = (site []);
+      first = [];
+      second = [];
+      opening = lend 128 16 64;
+      calls = ((lend 128 16 64, run false) ∷ []);
+      check = (passes (Some 3));
+      answers = ((ran (told 12 nothing 3 1) 3 [] []) ∷ []);
+    }
+    ∷  -- modules-cannot-be-caught
+    record {
+      image = (82 ∷ 72 ∷ 83 ∷ 1 ∷ 0 ∷ 0 ∷ 2 ∷ 0 ∷ 2 ∷ 0 ∷ 1 ∷ 0 ∷ 9 ∷ 0 ∷ 0 ∷ 0 ∷ 1 ∷ 0 ∷ 1 ∷ 0 ∷ 1 ∷ 0 ∷ 11 ∷ 0 ∷ 1 ∷ 0 ∷ 1 ∷ 0 ∷ 0 ∷ 0 ∷ 1 ∷ 0 ∷ 255 ∷ 255 ∷ 0 ∷ 0 ∷ 0 ∷ 0 ∷ 0 ∷ 0 ∷ 0 ∷ 0 ∷ 13 ∷ 0 ∷ 2 ∷ 0 ∷ 1 ∷ 0 ∷ 0 ∷ 0 ∷ 0 ∷ 0 ∷ 0 ∷ 0 ∷ 0 ∷ 0 ∷ 0 ∷ 0 ∷ 0 ∷ 0 ∷ 0 ∷ 0 ∷ 0 ∷ 0 ∷ 2 ∷ 0 ∷ 5 ∷ 0 ∷ 0 ∷ 0 ∷ 97 ∷ 98 ∷ 99 ∷ 100 ∷ 101 ∷ 102 ∷ 97 ∷ 98 ∷ 99 ∷ []);
+      text = (97 ∷ 98 ∷ 99 ∷ 113 ∷ []);
+      operations = 50;
+      names = 10;
+      modules = 0;
+      host = (scripted ((evaluation Nothing Nothing (eval.Value (v.Number (pos 1)))) ∷ []) []);
+      first = ((row 1 (Module 7)) ∷ []);
+      second = [];
+      opening = lend 128 16 64;
+      calls = ((lend 128 16 64, run false) ∷ []);
+      check = (passes (Some 3));
+      answers = ((ran (told 21 nothing 2 1) 2 [] []) ∷ []);
+    }
+    ∷  -- host-fault-in-a-catch-is-no-throw
+    record {
+      image = (82 ∷ 72 ∷ 83 ∷ 1 ∷ 0 ∷ 0 ∷ 3 ∷ 0 ∷ 3 ∷ 0 ∷ 2 ∷ 0 ∷ 9 ∷ 0 ∷ 0 ∷ 0 ∷ 1 ∷ 0 ∷ 1 ∷ 0 ∷ 1 ∷ 0 ∷ 2 ∷ 0 ∷ 1 ∷ 0 ∷ 11 ∷ 0 ∷ 1 ∷ 0 ∷ 1 ∷ 0 ∷ 0 ∷ 0 ∷ 1 ∷ 0 ∷ 2 ∷ 0 ∷ 0 ∷ 0 ∷ 0 ∷ 0 ∷ 0 ∷ 0 ∷ 0 ∷ 0 ∷ 12 ∷ 8 ∷ 2 ∷ 0 ∷ 1 ∷ 0 ∷ 0 ∷ 0 ∷ 0 ∷ 0 ∷ 0 ∷ 0 ∷ 0 ∷ 0 ∷ 0 ∷ 0 ∷ 0 ∷ 0 ∷ 0 ∷ 0 ∷ 1 ∷ 0 ∷ 3 ∷ 0 ∷ 1 ∷ 0 ∷ 1 ∷ 0 ∷ 0 ∷ 0 ∷ 0 ∷ 0 ∷ 0 ∷ 0 ∷ 0 ∷ 0 ∷ 0 ∷ 0 ∷ 0 ∷ 0 ∷ 0 ∷ 0 ∷ 2 ∷ 0 ∷ 5 ∷ 0 ∷ 0 ∷ 0 ∷ 0 ∷ 0 ∷ 3 ∷ 0 ∷ 5 ∷ 0 ∷ 0 ∷ 0 ∷ 97 ∷ 98 ∷ 99 ∷ 100 ∷ 101 ∷ 102 ∷ 97 ∷ 98 ∷ 99 ∷ []);
+      text = (97 ∷ 98 ∷ 99 ∷ 113 ∷ []);
+      operations = 50;
+      names = 10;
+      modules = 0;
+      host = (scripted ((evaluation Nothing Nothing (eval.Value (v.Number (pos 4)))) ∷ (evaluation Nothing Nothing (eval.Fault (fault 2 0 0 true))) ∷ []) []);
+      first = [];
+      second = [];
+      opening = lend 128 16 64;
+      calls = ((lend 128 16 64, run false) ∷ []);
+      check = (passes (Some 5));
+      answers = ((ran (told 25 (code 2) 3 5) 5 [] []) ∷ []);
+    }
+    ∷  -- named-catch-at-the-limit-without-fault
+    record {
+      image = (82 ∷ 72 ∷ 83 ∷ 1 ∷ 0 ∷ 0 ∷ 2 ∷ 0 ∷ 3 ∷ 0 ∷ 2 ∷ 0 ∷ 9 ∷ 0 ∷ 0 ∷ 0 ∷ 2 ∷ 0 ∷ 2 ∷ 0 ∷ 1 ∷ 0 ∷ 4 ∷ 0 ∷ 1 ∷ 0 ∷ 1 ∷ 0 ∷ 0 ∷ 0 ∷ 0 ∷ 0 ∷ 0 ∷ 0 ∷ 0 ∷ 0 ∷ 1 ∷ 0 ∷ 0 ∷ 0 ∷ 0 ∷ 0 ∷ 11 ∷ 0 ∷ 2 ∷ 0 ∷ 1 ∷ 0 ∷ 0 ∷ 0 ∷ 1 ∷ 0 ∷ 255 ∷ 255 ∷ 4 ∷ 0 ∷ 1 ∷ 0 ∷ 0 ∷ 0 ∷ 0 ∷ 0 ∷ 1 ∷ 0 ∷ 3 ∷ 0 ∷ 1 ∷ 0 ∷ 1 ∷ 0 ∷ 0 ∷ 0 ∷ 0 ∷ 0 ∷ 0 ∷ 0 ∷ 0 ∷ 0 ∷ 0 ∷ 0 ∷ 0 ∷ 0 ∷ 0 ∷ 0 ∷ 1 ∷ 0 ∷ 5 ∷ 0 ∷ 0 ∷ 0 ∷ 0 ∷ 0 ∷ 3 ∷ 0 ∷ 5 ∷ 0 ∷ 0 ∷ 0 ∷ 97 ∷ 98 ∷ 99 ∷ 100 ∷ 101 ∷ 102 ∷ 97 ∷ 98 ∷ 99 ∷ []);
+      text = (97 ∷ 98 ∷ 99 ∷ 113 ∷ []);
+      operations = 50;
+      names = 1;
+      modules = 0;
+      host = (scripted ((evaluation Nothing Nothing (eval.Value (v.Number (pos 1)))) ∷ (evaluation Nothing Nothing (eval.Value (v.Number (pos 3)))) ∷ []) []);
+      first = [];
+      second = [];
+      opening = lend 128 16 64;
+      calls = ((lend 128 16 64, run false) ∷ []);
+      check = (passes (Some 5));
+      answers = ((ran (told 0 (value (v.Number (pos 3))) 0 0) 5 ((variable (place Rule 0 1) ReadWrite (v.Number (pos 1))) ∷ []) []) ∷ []);
+    }
+    ∷  -- exit-in-a-catch
+    record {
+      image = (82 ∷ 72 ∷ 83 ∷ 1 ∷ 0 ∷ 0 ∷ 3 ∷ 0 ∷ 3 ∷ 0 ∷ 1 ∷ 0 ∷ 9 ∷ 0 ∷ 0 ∷ 0 ∷ 1 ∷ 0 ∷ 1 ∷ 0 ∷ 1 ∷ 0 ∷ 2 ∷ 0 ∷ 1 ∷ 0 ∷ 11 ∷ 0 ∷ 1 ∷ 0 ∷ 1 ∷ 0 ∷ 0 ∷ 0 ∷ 1 ∷ 0 ∷ 2 ∷ 0 ∷ 4 ∷ 0 ∷ 1 ∷ 0 ∷ 0 ∷ 0 ∷ 0 ∷ 0 ∷ 12 ∷ 8 ∷ 2 ∷ 0 ∷ 1 ∷ 0 ∷ 255 ∷ 255 ∷ 0 ∷ 0 ∷ 0 ∷ 0 ∷ 0 ∷ 0 ∷ 0 ∷ 0 ∷ 0 ∷ 0 ∷ 0 ∷ 0 ∷ 1 ∷ 0 ∷ 3 ∷ 0 ∷ 1 ∷ 0 ∷ 0 ∷ 0 ∷ 0 ∷ 0 ∷ 0 ∷ 0 ∷ 0 ∷ 0 ∷ 0 ∷ 0 ∷ 0 ∷ 0 ∷ 0 ∷ 0 ∷ 0 ∷ 0 ∷ 3 ∷ 0 ∷ 5 ∷ 0 ∷ 0 ∷ 0 ∷ 97 ∷ 98 ∷ 99 ∷ 100 ∷ 101 ∷ 102 ∷ 97 ∷ 98 ∷ 99 ∷ []);
+      text = (97 ∷ 98 ∷ 99 ∷ 113 ∷ []);
+      operations = 50;
+      names = 10;
+      modules = 0;
+      host = (scripted ((evaluation Nothing Nothing (eval.Exit (v.Number (pos 6)))) ∷ []) []);
+      first = [];
+      second = [];
+      opening = lend 128 16 64;
+      calls = ((lend 128 16 64, run false) ∷ (lend 128 16 64, run true) ∷ []);
+      check = (passes (Some 4));
+      answers = ((ran (told 26 (value (v.Number (pos 6))) 3 5) 4 [] []) ∷ (ran (told 0 (value (v.Number (pos 6))) 0 0) 4 [] []) ∷ []);
+    }
+    ∷  -- caught-refused-name-is-its-number
+    record {
+      image = (82 ∷ 72 ∷ 83 ∷ 1 ∷ 0 ∷ 0 ∷ 3 ∷ 0 ∷ 3 ∷ 0 ∷ 2 ∷ 0 ∷ 9 ∷ 0 ∷ 0 ∷ 0 ∷ 1 ∷ 0 ∷ 1 ∷ 0 ∷ 1 ∷ 0 ∷ 2 ∷ 0 ∷ 1 ∷ 0 ∷ 11 ∷ 0 ∷ 1 ∷ 0 ∷ 1 ∷ 0 ∷ 0 ∷ 0 ∷ 1 ∷ 0 ∷ 2 ∷ 0 ∷ 4 ∷ 0 ∷ 1 ∷ 0 ∷ 0 ∷ 0 ∷ 0 ∷ 0 ∷ 4 ∷ 0 ∷ 2 ∷ 0 ∷ 1 ∷ 0 ∷ 0 ∷ 0 ∷ 0 ∷ 0 ∷ 0 ∷ 0 ∷ 0 ∷ 0 ∷ 1 ∷ 0 ∷ 0 ∷ 0 ∷ 0 ∷ 0 ∷ 12 ∷ 0 ∷ 3 ∷ 0 ∷ 1 ∷ 0 ∷ 1 ∷ 0 ∷ 0 ∷ 0 ∷ 0 ∷ 0 ∷ 0 ∷ 0 ∷ 0 ∷ 0 ∷ 0 ∷ 0 ∷ 0 ∷ 0 ∷ 1 ∷ 0 ∷ 2 ∷ 0 ∷ 5 ∷ 0 ∷ 0 ∷ 0 ∷ 0 ∷ 0 ∷ 3 ∷ 0 ∷ 5 ∷ 0 ∷ 0 ∷ 0 ∷ 97 ∷ 98 ∷ 99 ∷ 100 ∷ 101 ∷ 102 ∷ 97 ∷ 98 ∷ 99 ∷ []);
+      text = (97 ∷ 98 ∷ 99 ∷ 113 ∷ []);
+      operations = 50;
+      names = 10;
+      modules = 0;
+      host = (scripted ((evaluation Nothing Nothing (eval.Row 1)) ∷ []) ((declaration Nothing Nothing allow.No) ∷ []));
+      first = [];
+      second = [];
+      opening = lend 128 16 64;
+      calls = ((lend 128 16 64, run false) ∷ []);
+      check = (passes (Some 5));
+      answers = ((ran (told 0 (value (v.Number (pos 13))) 0 0) 4 [] []) ∷ []);
+    }
+    ∷  -- caught-wrong-kind-is-its-number
+    record {
+      image = (82 ∷ 72 ∷ 83 ∷ 1 ∷ 0 ∷ 0 ∷ 3 ∷ 0 ∷ 3 ∷ 0 ∷ 2 ∷ 0 ∷ 9 ∷ 0 ∷ 0 ∷ 0 ∷ 1 ∷ 0 ∷ 1 ∷ 0 ∷ 1 ∷ 0 ∷ 2 ∷ 0 ∷ 1 ∷ 0 ∷ 11 ∷ 0 ∷ 1 ∷ 0 ∷ 1 ∷ 0 ∷ 0 ∷ 0 ∷ 1 ∷ 0 ∷ 2 ∷ 0 ∷ 4 ∷ 0 ∷ 1 ∷ 0 ∷ 0 ∷ 0 ∷ 0 ∷ 0 ∷ 5 ∷ 0 ∷ 2 ∷ 0 ∷ 1 ∷ 0 ∷ 0 ∷ 0 ∷ 255 ∷ 255 ∷ 255 ∷ 255 ∷ 0 ∷ 0 ∷ 0 ∷ 0 ∷ 0 ∷ 0 ∷ 0 ∷ 0 ∷ 12 ∷ 0 ∷ 3 ∷ 0 ∷ 1 ∷ 0 ∷ 1 ∷ 0 ∷ 0 ∷ 0 ∷ 0 ∷ 0 ∷ 0 ∷ 0 ∷ 0 ∷ 0 ∷ 0 ∷ 0 ∷ 0 ∷ 0 ∷ 1 ∷ 0 ∷ 2 ∷ 0 ∷ 5 ∷ 0 ∷ 0 ∷ 0 ∷ 0 ∷ 0 ∷ 3 ∷ 0 ∷ 5 ∷ 0 ∷ 0 ∷ 0 ∷ 97 ∷ 98 ∷ 99 ∷ 100 ∷ 101 ∷ 102 ∷ 97 ∷ 98 ∷ 99 ∷ []);
+      text = (97 ∷ 98 ∷ 99 ∷ 113 ∷ []);
+      operations = 50;
+      names = 10;
+      modules = 0;
+      host = (scripted ((evaluation Nothing Nothing (eval.Row 1)) ∷ []) []);
+      first = [];
+      second = [];
+      opening = lend 128 16 64;
+      calls = ((lend 128 16 64, run false) ∷ []);
+      check = (passes (Some 5));
+      answers = ((ran (told 0 (value (v.Number (pos 15))) 0 0) 5 [] []) ∷ []);
+    }
+    ∷  -- caught-value-that-is-not-iterable-is-its-number
+    record {
+      image = (82 ∷ 72 ∷ 83 ∷ 1 ∷ 0 ∷ 0 ∷ 3 ∷ 0 ∷ 3 ∷ 0 ∷ 2 ∷ 0 ∷ 9 ∷ 0 ∷ 0 ∷ 0 ∷ 1 ∷ 0 ∷ 1 ∷ 0 ∷ 1 ∷ 0 ∷ 2 ∷ 0 ∷ 1 ∷ 0 ∷ 11 ∷ 0 ∷ 1 ∷ 0 ∷ 1 ∷ 0 ∷ 0 ∷ 0 ∷ 1 ∷ 0 ∷ 2 ∷ 0 ∷ 4 ∷ 0 ∷ 1 ∷ 0 ∷ 0 ∷ 0 ∷ 0 ∷ 0 ∷ 9 ∷ 0 ∷ 2 ∷ 0 ∷ 1 ∷ 0 ∷ 0 ∷ 0 ∷ 255 ∷ 255 ∷ 0 ∷ 0 ∷ 0 ∷ 0 ∷ 1 ∷ 0 ∷ 0 ∷ 0 ∷ 0 ∷ 0 ∷ 12 ∷ 0 ∷ 3 ∷ 0 ∷ 1 ∷ 0 ∷ 1 ∷ 0 ∷ 0 ∷ 0 ∷ 0 ∷ 0 ∷ 0 ∷ 0 ∷ 0 ∷ 0 ∷ 0 ∷ 0 ∷ 0 ∷ 0 ∷ 1 ∷ 0 ∷ 2 ∷ 0 ∷ 5 ∷ 0 ∷ 0 ∷ 0 ∷ 0 ∷ 0 ∷ 3 ∷ 0 ∷ 5 ∷ 0 ∷ 0 ∷ 0 ∷ 97 ∷ 98 ∷ 99 ∷ 100 ∷ 101 ∷ 102 ∷ 97 ∷ 98 ∷ 99 ∷ []);
+      text = (97 ∷ 98 ∷ 99 ∷ 113 ∷ []);
+      operations = 50;
+      names = 10;
+      modules = 0;
+      host = (scripted ((evaluation Nothing Nothing (eval.Row 1)) ∷ []) []);
+      first = [];
+      second = [];
+      opening = lend 128 16 64;
+      calls = ((lend 128 16 64, run false) ∷ []);
+      check = (passes None);
+      answers = ((ran (told 0 (value (v.Number (pos 16))) 0 0) 5 [] []) ∷ []);
+    }
+    ∷  -- caught-constant-is-its-number
+    record {
+      image = (82 ∷ 72 ∷ 83 ∷ 1 ∷ 0 ∷ 0 ∷ 3 ∷ 0 ∷ 4 ∷ 0 ∷ 3 ∷ 0 ∷ 9 ∷ 0 ∷ 0 ∷ 0 ∷ 2 ∷ 0 ∷ 2 ∷ 0 ∷ 1 ∷ 0 ∷ 3 ∷ 0 ∷ 1 ∷ 0 ∷ 4 ∷ 1 ∷ 1 ∷ 0 ∷ 1 ∷ 0 ∷ 0 ∷ 0 ∷ 0 ∷ 0 ∷ 0 ∷ 0 ∷ 0 ∷ 0 ∷ 1 ∷ 0 ∷ 0 ∷ 0 ∷ 0 ∷ 0 ∷ 11 ∷ 0 ∷ 2 ∷ 0 ∷ 1 ∷ 0 ∷ 0 ∷ 0 ∷ 1 ∷ 0 ∷ 2 ∷ 0 ∷ 4 ∷ 0 ∷ 1 ∷ 0 ∷ 0 ∷ 0 ∷ 0 ∷ 0 ∷ 3 ∷ 0 ∷ 3 ∷ 0 ∷ 1 ∷ 0 ∷ 1 ∷ 0 ∷ 0 ∷ 0 ∷ 0 ∷ 0 ∷ 0 ∷ 0 ∷ 1 ∷ 0 ∷ 0 ∷ 0 ∷ 0 ∷ 0 ∷ 12 ∷ 0 ∷ 4 ∷ 0 ∷ 1 ∷ 0 ∷ 2 ∷ 0 ∷ 0 ∷ 0 ∷ 0 ∷ 0 ∷ 0 ∷ 0 ∷ 0 ∷ 0 ∷ 0 ∷ 0 ∷ 0 ∷ 0 ∷ 1 ∷ 0 ∷ 1 ∷ 0 ∷ 5 ∷ 0 ∷ 0 ∷ 0 ∷ 3 ∷ 0 ∷ 3 ∷ 0 ∷ 5 ∷ 0 ∷ 0 ∷ 0 ∷ 0 ∷ 0 ∷ 4 ∷ 0 ∷ 5 ∷ 0 ∷ 0 ∷ 0 ∷ 97 ∷ 98 ∷ 99 ∷ 100 ∷ 101 ∷ 102 ∷ 97 ∷ 98 ∷ 99 ∷ []);
+      text = (97 ∷ 98 ∷ 99 ∷ 113 ∷ []);
+      operations = 50;
+      names = 10;
+      modules = 0;
+      host = (scripted ((evaluation Nothing Nothing (eval.Row 1)) ∷ []) []);
+      first = [];
+      second = [];
+      opening = lend 128 16 64;
+      calls = ((lend 128 16 64, run false) ∷ []);
+      check = (passes (Some 8));
+      answers = ((ran (told 0 (value (v.Number (pos 19))) 0 0) 8 ((variable (place Rule 0 1) ConstantAccess v.Unit) ∷ []) []) ∷ []);
+    }
+    ∷  -- caught-unknown-operator-is-its-number
+    record {
+      image = (82 ∷ 72 ∷ 83 ∷ 1 ∷ 0 ∷ 0 ∷ 3 ∷ 0 ∷ 4 ∷ 0 ∷ 3 ∷ 0 ∷ 9 ∷ 0 ∷ 0 ∷ 0 ∷ 2 ∷ 0 ∷ 2 ∷ 0 ∷ 1 ∷ 0 ∷ 3 ∷ 0 ∷ 1 ∷ 0 ∷ 4 ∷ 0 ∷ 1 ∷ 0 ∷ 1 ∷ 0 ∷ 0 ∷ 0 ∷ 0 ∷ 0 ∷ 0 ∷ 0 ∷ 0 ∷ 0 ∷ 1 ∷ 0 ∷ 0 ∷ 0 ∷ 0 ∷ 0 ∷ 11 ∷ 0 ∷ 2 ∷ 0 ∷ 1 ∷ 0 ∷ 0 ∷ 0 ∷ 1 ∷ 0 ∷ 2 ∷ 0 ∷ 4 ∷ 0 ∷ 1 ∷ 0 ∷ 0 ∷ 0 ∷ 0 ∷ 0 ∷ 3 ∷ 0 ∷ 3 ∷ 0 ∷ 1 ∷ 0 ∷ 1 ∷ 0 ∷ 0 ∷ 0 ∷ 255 ∷ 255 ∷ 0 ∷ 0 ∷ 1 ∷ 0 ∷ 0 ∷ 0 ∷ 0 ∷ 0 ∷ 12 ∷ 0 ∷ 4 ∷ 0 ∷ 1 ∷ 0 ∷ 2 ∷ 0 ∷ 0 ∷ 0 ∷ 0 ∷ 0 ∷ 0 ∷ 0 ∷ 0 ∷ 0 ∷ 0 ∷ 0 ∷ 0 ∷ 0 ∷ 1 ∷ 0 ∷ 1 ∷ 0 ∷ 5 ∷ 0 ∷ 0 ∷ 0 ∷ 3 ∷ 0 ∷ 3 ∷ 0 ∷ 5 ∷ 0 ∷ 0 ∷ 0 ∷ 0 ∷ 0 ∷ 4 ∷ 0 ∷ 5 ∷ 0 ∷ 0 ∷ 0 ∷ 97 ∷ 98 ∷ 99 ∷ 100 ∷ 101 ∷ 102 ∷ 97 ∷ 98 ∷ 99 ∷ []);
+      text = (97 ∷ 98 ∷ 99 ∷ 113 ∷ []);
+      operations = 50;
+      names = 10;
+      modules = 0;
+      host = (scripted ((evaluation Nothing Nothing (eval.Row 1)) ∷ []) []);
+      first = [];
+      second = [];
+      opening = lend 128 16 64;
+      calls = ((lend 128 16 64, run false) ∷ []);
+      check = (passes (Some 8));
+      answers = ((ran (told 0 (value (v.Number (pos 20))) 0 0) 8 ((variable (place Rule 0 1) ReadWrite v.Unit) ∷ []) []) ∷ []);
+    }
+    ∷  -- caught-import-not-found-is-its-number
+    record {
+      image = (82 ∷ 72 ∷ 83 ∷ 1 ∷ 0 ∷ 0 ∷ 3 ∷ 0 ∷ 3 ∷ 0 ∷ 2 ∷ 0 ∷ 9 ∷ 0 ∷ 0 ∷ 0 ∷ 1 ∷ 0 ∷ 1 ∷ 0 ∷ 1 ∷ 0 ∷ 2 ∷ 0 ∷ 1 ∷ 0 ∷ 11 ∷ 0 ∷ 1 ∷ 0 ∷ 1 ∷ 0 ∷ 0 ∷ 0 ∷ 1 ∷ 0 ∷ 2 ∷ 0 ∷ 4 ∷ 0 ∷ 1 ∷ 0 ∷ 0 ∷ 0 ∷ 0 ∷ 0 ∷ 13 ∷ 0 ∷ 2 ∷ 0 ∷ 1 ∷ 0 ∷ 0 ∷ 0 ∷ 0 ∷ 0 ∷ 0 ∷ 0 ∷ 0 ∷ 0 ∷ 0 ∷ 0 ∷ 0 ∷ 0 ∷ 0 ∷ 0 ∷ 12 ∷ 0 ∷ 3 ∷ 0 ∷ 1 ∷ 0 ∷ 1 ∷ 0 ∷ 0 ∷ 0 ∷ 0 ∷ 0 ∷ 0 ∷ 0 ∷ 0 ∷ 0 ∷ 0 ∷ 0 ∷ 0 ∷ 0 ∷ 0 ∷ 0 ∷ 2 ∷ 0 ∷ 5 ∷ 0 ∷ 0 ∷ 0 ∷ 0 ∷ 0 ∷ 3 ∷ 0 ∷ 5 ∷ 0 ∷ 0 ∷ 0 ∷ 97 ∷ 98 ∷ 99 ∷ 100 ∷ 101 ∷ 102 ∷ 97 ∷ 98 ∷ 99 ∷ []);
+      text = (97 ∷ 98 ∷ 99 ∷ 113 ∷ []);
+      operations = 50;
+      names = 10;
+      modules = 1;
+      host = (scripted ((evaluation Nothing Nothing (eval.Value (v.Number (pos 2)))) ∷ (evaluation Nothing Nothing (eval.Row 1)) ∷ []) []);
+      first = [];
+      second = [];
+      opening = lend 128 16 64;
+      calls = ((lend 128 16 64, run false) ∷ []);
+      check = (passes (Some 5));
+      answers = ((ran (told 0 (value (v.Number (pos 22))) 0 0) 5 [] []) ∷ []);
+    }
     ∷  -- imports-with-and-without-name
     record {
       image = (82 ∷ 72 ∷ 83 ∷ 1 ∷ 0 ∷ 0 ∷ 1 ∷ 0 ∷ 2 ∷ 0 ∷ 2 ∷ 0 ∷ 9 ∷ 0 ∷ 0 ∷ 0 ∷ 2 ∷ 0 ∷ 13 ∷ 0 ∷ 1 ∷ 0 ∷ 1 ∷ 0 ∷ 0 ∷ 0 ∷ 0 ∷ 0 ∷ 0 ∷ 0 ∷ 0 ∷ 0 ∷ 1 ∷ 0 ∷ 0 ∷ 0 ∷ 0 ∷ 0 ∷ 13 ∷ 0 ∷ 2 ∷ 0 ∷ 1 ∷ 0 ∷ 1 ∷ 0 ∷ 0 ∷ 0 ∷ 0 ∷ 0 ∷ 0 ∷ 0 ∷ 0 ∷ 0 ∷ 0 ∷ 0 ∷ 0 ∷ 0 ∷ 0 ∷ 0 ∷ 1 ∷ 0 ∷ 5 ∷ 0 ∷ 0 ∷ 0 ∷ 0 ∷ 0 ∷ 2 ∷ 0 ∷ 5 ∷ 0 ∷ 0 ∷ 0 ∷ 97 ∷ 98 ∷ 99 ∷ 100 ∷ 101 ∷ 102 ∷ 97 ∷ 98 ∷ 99 ∷ []);
@@ -1655,6 +2196,36 @@ table =
       calls = ((lend 128 16 64, run false) ∷ []);
       check = (passes (Some 4));
       answers = ((ran (told 0 (value v.Unit) 0 0) 4 [] ((import (place Rule 0 1) 7) ∷ (import (place Rule 0 0) 0) ∷ [])) ∷ []);
+    }
+    ∷  -- import-without-name-at-an-offset
+    record {
+      image = (82 ∷ 72 ∷ 83 ∷ 1 ∷ 0 ∷ 0 ∷ 1 ∷ 0 ∷ 1 ∷ 0 ∷ 1 ∷ 0 ∷ 9 ∷ 0 ∷ 0 ∷ 0 ∷ 1 ∷ 0 ∷ 13 ∷ 0 ∷ 1 ∷ 0 ∷ 1 ∷ 0 ∷ 0 ∷ 0 ∷ 0 ∷ 0 ∷ 0 ∷ 0 ∷ 3 ∷ 0 ∷ 0 ∷ 0 ∷ 0 ∷ 0 ∷ 0 ∷ 0 ∷ 0 ∷ 0 ∷ 1 ∷ 0 ∷ 5 ∷ 0 ∷ 0 ∷ 0 ∷ 97 ∷ 98 ∷ 99 ∷ 100 ∷ 101 ∷ 102 ∷ 97 ∷ 98 ∷ 99 ∷ []);
+      text = (97 ∷ 98 ∷ 99 ∷ 113 ∷ []);
+      operations = 50;
+      names = 10;
+      modules = 1;
+      host = (scripted ((evaluation Nothing Nothing (eval.Value (v.Number (pos 1)))) ∷ []) []);
+      first = ((row 1 (Module 7)) ∷ []);
+      second = [];
+      opening = lend 128 16 64;
+      calls = ((lend 128 16 64, run false) ∷ []);
+      check = (passes (Some 2));
+      answers = ((ran (told 0 (value v.Unit) 0 0) 2 [] ((import (place Rule 0 0) 7) ∷ [])) ∷ []);
+    }
+    ∷  -- each-run-starts-without-modules
+    record {
+      image = (82 ∷ 72 ∷ 83 ∷ 1 ∷ 0 ∷ 0 ∷ 1 ∷ 0 ∷ 1 ∷ 0 ∷ 1 ∷ 0 ∷ 9 ∷ 0 ∷ 0 ∷ 0 ∷ 1 ∷ 0 ∷ 13 ∷ 0 ∷ 1 ∷ 0 ∷ 1 ∷ 0 ∷ 0 ∷ 0 ∷ 0 ∷ 0 ∷ 0 ∷ 0 ∷ 0 ∷ 0 ∷ 1 ∷ 0 ∷ 0 ∷ 0 ∷ 0 ∷ 0 ∷ 0 ∷ 0 ∷ 1 ∷ 0 ∷ 5 ∷ 0 ∷ 0 ∷ 0 ∷ 97 ∷ 98 ∷ 99 ∷ 100 ∷ 101 ∷ 102 ∷ 97 ∷ 98 ∷ 99 ∷ []);
+      text = (97 ∷ 98 ∷ 99 ∷ 113 ∷ []);
+      operations = 50;
+      names = 10;
+      modules = 1;
+      host = (scripted ((evaluation Nothing Nothing (eval.Value (v.Number (pos 1)))) ∷ []) []);
+      first = ((row 1 (Module 7)) ∷ []);
+      second = [];
+      opening = lend 128 16 64;
+      calls = ((lend 128 16 64, run false) ∷ (lend 128 16 64, run false) ∷ []);
+      check = (passes (Some 2));
+      answers = ((ran (told 0 (value v.Unit) 0 0) 2 [] ((import (place Rule 0 1) 7) ∷ [])) ∷ (ran (told 0 (value v.Unit) 0 0) 2 [] ((import (place Rule 0 1) 7) ∷ [])) ∷ []);
     }
     ∷  -- imports-of-a-block-go-but-count
     record {
@@ -1821,6 +2392,21 @@ table =
       check = (passes (Some 3));
       answers = ((ran (told 23 (code 5) 2 5) 3 [] []) ∷ []);
     }
+    ∷  -- imports-of-the-run-before-go
+    record {
+      image = (82 ∷ 72 ∷ 83 ∷ 1 ∷ 0 ∷ 0 ∷ 1 ∷ 0 ∷ 2 ∷ 0 ∷ 2 ∷ 0 ∷ 9 ∷ 0 ∷ 0 ∷ 0 ∷ 2 ∷ 0 ∷ 13 ∷ 0 ∷ 1 ∷ 0 ∷ 1 ∷ 0 ∷ 0 ∷ 0 ∷ 0 ∷ 0 ∷ 0 ∷ 0 ∷ 0 ∷ 0 ∷ 1 ∷ 0 ∷ 0 ∷ 0 ∷ 0 ∷ 0 ∷ 12 ∷ 0 ∷ 2 ∷ 0 ∷ 1 ∷ 0 ∷ 1 ∷ 0 ∷ 0 ∷ 0 ∷ 0 ∷ 0 ∷ 0 ∷ 0 ∷ 0 ∷ 0 ∷ 0 ∷ 0 ∷ 0 ∷ 0 ∷ 0 ∷ 0 ∷ 1 ∷ 0 ∷ 5 ∷ 0 ∷ 0 ∷ 0 ∷ 0 ∷ 0 ∷ 2 ∷ 0 ∷ 5 ∷ 0 ∷ 0 ∷ 0 ∷ 97 ∷ 98 ∷ 99 ∷ 100 ∷ 101 ∷ 102 ∷ 97 ∷ 98 ∷ 99 ∷ []);
+      text = (97 ∷ 98 ∷ 99 ∷ 113 ∷ []);
+      operations = 50;
+      names = 10;
+      modules = 1;
+      host = (listed ((entry.Value 4) ∷ (entry.Value 5) ∷ (entry.Value 2) ∷ []));
+      first = ((row 1 (Module 7)) ∷ []);
+      second = [];
+      opening = lend 128 16 64;
+      calls = ((lend 128 16 64, run false) ∷ (lend 128 16 64, run false) ∷ []);
+      check = (passes (Some 4));
+      answers = ((ran (told 0 (value (v.Number (pos 2))) 0 0) 4 [] ((import (place Rule 0 1) 7) ∷ [])) ∷ (ran (told 15 nothing 1 5) 2 [] []) ∷ []);
+    }
     ∷  -- expression-statement-charged-at-its-row
     record {
       image = (82 ∷ 72 ∷ 83 ∷ 1 ∷ 0 ∷ 0 ∷ 1 ∷ 0 ∷ 2 ∷ 0 ∷ 1 ∷ 0 ∷ 9 ∷ 0 ∷ 0 ∷ 0 ∷ 2 ∷ 0 ∷ 0 ∷ 0 ∷ 1 ∷ 0 ∷ 1 ∷ 0 ∷ 0 ∷ 0 ∷ 0 ∷ 0 ∷ 0 ∷ 0 ∷ 0 ∷ 0 ∷ 0 ∷ 0 ∷ 0 ∷ 0 ∷ 0 ∷ 0 ∷ 1 ∷ 0 ∷ 2 ∷ 0 ∷ 1 ∷ 0 ∷ 0 ∷ 0 ∷ 0 ∷ 0 ∷ 0 ∷ 0 ∷ 0 ∷ 0 ∷ 0 ∷ 0 ∷ 0 ∷ 0 ∷ 0 ∷ 0 ∷ 0 ∷ 0 ∷ 2 ∷ 0 ∷ 5 ∷ 0 ∷ 0 ∷ 0 ∷ 97 ∷ 98 ∷ 99 ∷ 100 ∷ 101 ∷ 102 ∷ 97 ∷ 98 ∷ 99 ∷ []);
@@ -1910,6 +2496,81 @@ table =
       calls = ((lend 128 16 64, run true) ∷ []);
       check = (passes (Some 3));
       answers = ((ran (told 0 (value (v.Number (pos 6))) 0 0) 3 [] []) ∷ []);
+    }
+    ∷  -- list-used-up
+    record {
+      image = (82 ∷ 72 ∷ 83 ∷ 1 ∷ 0 ∷ 0 ∷ 2 ∷ 0 ∷ 3 ∷ 0 ∷ 2 ∷ 0 ∷ 9 ∷ 0 ∷ 0 ∷ 0 ∷ 1 ∷ 0 ∷ 1 ∷ 0 ∷ 2 ∷ 0 ∷ 11 ∷ 0 ∷ 1 ∷ 0 ∷ 1 ∷ 0 ∷ 0 ∷ 0 ∷ 1 ∷ 0 ∷ 255 ∷ 255 ∷ 0 ∷ 0 ∷ 0 ∷ 0 ∷ 0 ∷ 0 ∷ 0 ∷ 0 ∷ 1 ∷ 0 ∷ 2 ∷ 0 ∷ 1 ∷ 0 ∷ 0 ∷ 0 ∷ 0 ∷ 0 ∷ 0 ∷ 0 ∷ 0 ∷ 0 ∷ 0 ∷ 0 ∷ 0 ∷ 0 ∷ 0 ∷ 0 ∷ 1 ∷ 0 ∷ 3 ∷ 0 ∷ 1 ∷ 0 ∷ 1 ∷ 0 ∷ 0 ∷ 0 ∷ 0 ∷ 0 ∷ 0 ∷ 0 ∷ 0 ∷ 0 ∷ 0 ∷ 0 ∷ 0 ∷ 0 ∷ 0 ∷ 0 ∷ 2 ∷ 0 ∷ 5 ∷ 0 ∷ 0 ∷ 0 ∷ 0 ∷ 0 ∷ 3 ∷ 0 ∷ 5 ∷ 0 ∷ 0 ∷ 0 ∷ 97 ∷ 98 ∷ 99 ∷ 100 ∷ 101 ∷ 102 ∷ 97 ∷ 98 ∷ 99 ∷ []);
+      text = (97 ∷ 98 ∷ 99 ∷ 113 ∷ []);
+      operations = 50;
+      names = 10;
+      modules = 0;
+      host = (listed ((entry.Value 6) ∷ []));
+      first = [];
+      second = [];
+      opening = lend 128 16 64;
+      calls = ((lend 128 16 64, run false) ∷ (lend 128 16 64, run false) ∷ []);
+      check = (passes (Some 5));
+      answers = ((ran (told 25 (code 1) 3 5) 5 [] []) ∷ (ran (told 25 (code 1) 2 5) 3 [] []) ∷ []);
+    }
+    ∷  -- list-exits
+    record {
+      image = (82 ∷ 72 ∷ 83 ∷ 1 ∷ 0 ∷ 0 ∷ 1 ∷ 0 ∷ 1 ∷ 0 ∷ 1 ∷ 0 ∷ 9 ∷ 0 ∷ 0 ∷ 0 ∷ 1 ∷ 0 ∷ 1 ∷ 0 ∷ 1 ∷ 0 ∷ 1 ∷ 0 ∷ 0 ∷ 0 ∷ 0 ∷ 0 ∷ 0 ∷ 0 ∷ 0 ∷ 0 ∷ 0 ∷ 0 ∷ 0 ∷ 0 ∷ 0 ∷ 0 ∷ 0 ∷ 0 ∷ 1 ∷ 0 ∷ 5 ∷ 0 ∷ 0 ∷ 0 ∷ 97 ∷ 98 ∷ 99 ∷ 100 ∷ 101 ∷ 102 ∷ 97 ∷ 98 ∷ 99 ∷ []);
+      text = (97 ∷ 98 ∷ 99 ∷ 113 ∷ []);
+      operations = 50;
+      names = 10;
+      modules = 0;
+      host = (listed ((entry.Exit 2) ∷ (entry.Exit 1) ∷ []));
+      first = [];
+      second = [];
+      opening = lend 128 16 64;
+      calls = ((lend 128 16 64, run false) ∷ (lend 128 16 64, run true) ∷ []);
+      check = (passes (Some 2));
+      answers = ((ran (told 26 (value (v.Truth true)) 1 5) 2 [] []) ∷ (ran (told 0 (value (v.Truth false)) 0 0) 2 [] []) ∷ []);
+    }
+    ∷  -- list-host-denies-a-present-name
+    record {
+      image = (82 ∷ 72 ∷ 83 ∷ 1 ∷ 0 ∷ 0 ∷ 1 ∷ 0 ∷ 2 ∷ 0 ∷ 2 ∷ 0 ∷ 9 ∷ 0 ∷ 0 ∷ 0 ∷ 2 ∷ 0 ∷ 4 ∷ 0 ∷ 1 ∷ 0 ∷ 1 ∷ 0 ∷ 0 ∷ 0 ∷ 0 ∷ 0 ∷ 0 ∷ 0 ∷ 0 ∷ 0 ∷ 1 ∷ 0 ∷ 0 ∷ 0 ∷ 0 ∷ 0 ∷ 4 ∷ 0 ∷ 2 ∷ 0 ∷ 1 ∷ 0 ∷ 1 ∷ 0 ∷ 0 ∷ 0 ∷ 0 ∷ 0 ∷ 0 ∷ 0 ∷ 1 ∷ 0 ∷ 0 ∷ 0 ∷ 0 ∷ 0 ∷ 0 ∷ 0 ∷ 1 ∷ 0 ∷ 5 ∷ 0 ∷ 0 ∷ 0 ∷ 0 ∷ 0 ∷ 2 ∷ 0 ∷ 5 ∷ 0 ∷ 0 ∷ 0 ∷ 97 ∷ 98 ∷ 99 ∷ 100 ∷ 101 ∷ 102 ∷ 97 ∷ 98 ∷ 99 ∷ []);
+      text = (97 ∷ 98 ∷ 99 ∷ 113 ∷ []);
+      operations = 50;
+      names = 10;
+      modules = 0;
+      host = (listed ((entry.Value 6) ∷ (entry.Value 7) ∷ []));
+      first = [];
+      second = [];
+      opening = lend 128 16 64;
+      calls = ((lend 128 16 64, run false) ∷ []);
+      check = (passes (Some 4));
+      answers = ((ran (told 13 (name (place Rule 0 1)) 2 1) 3 ((variable (place Rule 0 1) ReadWrite (v.Number (pos 3))) ∷ []) []) ∷ []);
+    }
+    ∷  -- condition-without-truth
+    record {
+      image = (82 ∷ 72 ∷ 83 ∷ 1 ∷ 0 ∷ 0 ∷ 2 ∷ 0 ∷ 2 ∷ 0 ∷ 1 ∷ 0 ∷ 9 ∷ 0 ∷ 0 ∷ 0 ∷ 1 ∷ 0 ∷ 1 ∷ 0 ∷ 1 ∷ 0 ∷ 5 ∷ 0 ∷ 1 ∷ 0 ∷ 1 ∷ 0 ∷ 0 ∷ 0 ∷ 1 ∷ 0 ∷ 255 ∷ 255 ∷ 0 ∷ 0 ∷ 0 ∷ 0 ∷ 0 ∷ 0 ∷ 0 ∷ 0 ∷ 0 ∷ 0 ∷ 2 ∷ 0 ∷ 1 ∷ 0 ∷ 0 ∷ 0 ∷ 0 ∷ 0 ∷ 0 ∷ 0 ∷ 0 ∷ 0 ∷ 0 ∷ 0 ∷ 0 ∷ 0 ∷ 0 ∷ 0 ∷ 0 ∷ 0 ∷ 1 ∷ 0 ∷ 5 ∷ 0 ∷ 0 ∷ 0 ∷ 97 ∷ 98 ∷ 99 ∷ 100 ∷ 101 ∷ 102 ∷ 97 ∷ 98 ∷ 99 ∷ []);
+      text = (97 ∷ 98 ∷ 99 ∷ 113 ∷ []);
+      operations = 50;
+      names = 10;
+      modules = 0;
+      host = (listed ((entry.Value 6) ∷ []));
+      first = [];
+      second = [];
+      opening = lend 128 16 64;
+      calls = ((lend 128 16 64, run false) ∷ []);
+      check = (passes (Some 3));
+      answers = ((ran (told 15 nothing 1 5) 2 [] []) ∷ []);
+    }
+    ∷  -- if-by-a-number
+    record {
+      image = (82 ∷ 72 ∷ 83 ∷ 1 ∷ 0 ∷ 0 ∷ 2 ∷ 0 ∷ 2 ∷ 0 ∷ 1 ∷ 0 ∷ 9 ∷ 0 ∷ 0 ∷ 0 ∷ 1 ∷ 0 ∷ 1 ∷ 0 ∷ 1 ∷ 0 ∷ 5 ∷ 0 ∷ 1 ∷ 0 ∷ 1 ∷ 0 ∷ 0 ∷ 0 ∷ 1 ∷ 0 ∷ 255 ∷ 255 ∷ 0 ∷ 0 ∷ 0 ∷ 0 ∷ 0 ∷ 0 ∷ 0 ∷ 0 ∷ 0 ∷ 0 ∷ 2 ∷ 0 ∷ 1 ∷ 0 ∷ 0 ∷ 0 ∷ 0 ∷ 0 ∷ 0 ∷ 0 ∷ 0 ∷ 0 ∷ 0 ∷ 0 ∷ 0 ∷ 0 ∷ 0 ∷ 0 ∷ 0 ∷ 0 ∷ 1 ∷ 0 ∷ 5 ∷ 0 ∷ 0 ∷ 0 ∷ 97 ∷ 98 ∷ 99 ∷ 100 ∷ 101 ∷ 102 ∷ 97 ∷ 98 ∷ 99 ∷ []);
+      text = (97 ∷ 98 ∷ 99 ∷ 113 ∷ []);
+      operations = 50;
+      names = 10;
+      modules = 0;
+      host = (scripted ((evaluation Nothing Nothing (eval.Value (v.Number (pos 3)))) ∷ []) []);
+      first = [];
+      second = [];
+      opening = lend 128 16 64;
+      calls = ((lend 128 16 64, run false) ∷ []);
+      check = (passes (Some 3));
+      answers = ((ran (told 15 nothing 1 5) 2 [] []) ∷ []);
     }
     ∷  -- if-without-else
     record {
@@ -2061,6 +2722,81 @@ table =
       check = (passes (Some 1));
       answers = (made ∷ (refused 9) ∷ (refused 9) ∷ (refused 9) ∷ (refused 9) ∷ (refused 9) ∷ (refused 9) ∷ (ran (told 0 (value v.Unit) 0 0) 1 ((variable (place Site 0 1) ReadWrite v.Unit) ∷ []) []) ∷ []);
     }
+    ∷  -- put-of-a-present-name
+    record {
+      image = (82 ∷ 72 ∷ 83 ∷ 1 ∷ 0 ∷ 0 ∷ 1 ∷ 0 ∷ 0 ∷ 0 ∷ 0 ∷ 0 ∷ 9 ∷ 0 ∷ 0 ∷ 0 ∷ 0 ∷ 0 ∷ 97 ∷ 98 ∷ 99 ∷ 100 ∷ 101 ∷ 102 ∷ 97 ∷ 98 ∷ 99 ∷ []);
+      text = (97 ∷ 98 ∷ 99 ∷ 113 ∷ []);
+      operations = 50;
+      names = 8;
+      modules = 0;
+      host = (site []);
+      first = [];
+      second = [];
+      opening = lend 128 16 64;
+      calls = ((lend 128 16 64, put 0 1 (v.Number (pos 1))) ∷ (lend 128 16 64, put 0 1 (v.Number (pos 2))) ∷ (lend 128 16 64, read 0 1) ∷ (lend 128 16 64, run false) ∷ (lend 128 16 64, rewind 1) ∷ (lend 128 16 64, read 0 1) ∷ []);
+      check = (passes (Some 0));
+      answers = (made ∷ made ∷ (got (Some (v.Number (pos 2)))) ∷ (ran (told 0 (value v.Unit) 0 0) 0 ((variable (place Site 0 1) ReadWrite (v.Number (pos 1))) ∷ (variable (place Site 0 1) ReadWrite (v.Number (pos 2))) ∷ []) []) ∷ made ∷ (got (Some (v.Number (pos 1)))) ∷ []);
+    }
+    ∷  -- constant-can-be-read
+    record {
+      image = (82 ∷ 72 ∷ 83 ∷ 1 ∷ 0 ∷ 0 ∷ 1 ∷ 0 ∷ 1 ∷ 0 ∷ 1 ∷ 0 ∷ 9 ∷ 0 ∷ 0 ∷ 0 ∷ 1 ∷ 0 ∷ 4 ∷ 1 ∷ 1 ∷ 0 ∷ 1 ∷ 0 ∷ 0 ∷ 0 ∷ 0 ∷ 0 ∷ 0 ∷ 0 ∷ 1 ∷ 0 ∷ 1 ∷ 0 ∷ 0 ∷ 0 ∷ 0 ∷ 0 ∷ 0 ∷ 0 ∷ 1 ∷ 0 ∷ 5 ∷ 0 ∷ 0 ∷ 0 ∷ 97 ∷ 98 ∷ 99 ∷ 100 ∷ 101 ∷ 102 ∷ 97 ∷ 98 ∷ 99 ∷ []);
+      text = (97 ∷ 98 ∷ 99 ∷ 113 ∷ []);
+      operations = 50;
+      names = 8;
+      modules = 0;
+      host = (site ((Operand (Constant (w.Number (pos 8)))) ∷ []));
+      first = [];
+      second = [];
+      opening = lend 128 16 64;
+      calls = ((lend 128 16 64, run false) ∷ (lend 128 16 64, read 1 1) ∷ []);
+      check = (passes (Some 2));
+      answers = ((ran (told 0 (value v.Unit) 0 0) 2 ((variable (place Rule 1 1) ConstantAccess (v.Number (pos 8))) ∷ []) []) ∷ (got (Some (v.Number (pos 8)))) ∷ []);
+    }
+    ∷  -- put-of-no-name-when-full
+    record {
+      image = (82 ∷ 72 ∷ 83 ∷ 1 ∷ 0 ∷ 0 ∷ 1 ∷ 0 ∷ 0 ∷ 0 ∷ 0 ∷ 0 ∷ 9 ∷ 0 ∷ 0 ∷ 0 ∷ 0 ∷ 0 ∷ 97 ∷ 98 ∷ 99 ∷ 100 ∷ 101 ∷ 102 ∷ 97 ∷ 98 ∷ 99 ∷ []);
+      text = (97 ∷ 98 ∷ 99 ∷ 113 ∷ []);
+      operations = 50;
+      names = 1;
+      modules = 0;
+      host = (site []);
+      first = [];
+      second = [];
+      opening = lend 128 16 64;
+      calls = ((lend 128 16 64, put 0 1 v.Unit) ∷ (lend 128 16 64, put 0 0 v.Unit) ∷ (lend 128 16 64, put 0 1 v.Unit) ∷ []);
+      check = (passes (Some 0));
+      answers = (made ∷ (refused 10) ∷ (refused 11) ∷ []);
+    }
+    ∷  -- calls-with-too-few-import-rows
+    record {
+      image = (82 ∷ 72 ∷ 83 ∷ 1 ∷ 0 ∷ 0 ∷ 1 ∷ 0 ∷ 0 ∷ 0 ∷ 0 ∷ 0 ∷ 9 ∷ 0 ∷ 0 ∷ 0 ∷ 0 ∷ 0 ∷ 97 ∷ 98 ∷ 99 ∷ 100 ∷ 101 ∷ 102 ∷ 97 ∷ 98 ∷ 99 ∷ []);
+      text = (97 ∷ 98 ∷ 99 ∷ 113 ∷ []);
+      operations = 50;
+      names = 8;
+      modules = 0;
+      host = (site []);
+      first = [];
+      second = [];
+      opening = lend 10 16 64;
+      calls = ((lend 10 16 64, put 0 1 (v.Number (pos 1))) ∷ (lend 10 15 64, put 0 1 (v.Number (pos 2))) ∷ (lend 10 15 64, read 0 1) ∷ (lend 10 15 64, rewind 0) ∷ (lend 10 16 64, read 0 1) ∷ []);
+      check = (passes (Some 0));
+      answers = (made ∷ (refused 9) ∷ (refused 9) ∷ (refused 9) ∷ (got (Some (v.Number (pos 1)))) ∷ []);
+    }
+    ∷  -- calls-with-too-few-working-rows
+    record {
+      image = (82 ∷ 72 ∷ 83 ∷ 1 ∷ 0 ∷ 0 ∷ 1 ∷ 0 ∷ 0 ∷ 0 ∷ 0 ∷ 0 ∷ 9 ∷ 0 ∷ 0 ∷ 0 ∷ 0 ∷ 0 ∷ 97 ∷ 98 ∷ 99 ∷ 100 ∷ 101 ∷ 102 ∷ 97 ∷ 98 ∷ 99 ∷ []);
+      text = (97 ∷ 98 ∷ 99 ∷ 113 ∷ []);
+      operations = 50;
+      names = 8;
+      modules = 0;
+      host = (site []);
+      first = [];
+      second = [];
+      opening = lend 10 16 64;
+      calls = ((lend 10 16 64, put 0 1 (v.Number (pos 1))) ∷ (lend 10 16 63, put 0 1 (v.Number (pos 2))) ∷ (lend 10 16 63, read 0 1) ∷ (lend 10 16 63, rewind 0) ∷ (lend 10 16 64, read 0 1) ∷ []);
+      check = (passes (Some 0));
+      answers = (made ∷ (refused 9) ∷ (refused 9) ∷ (refused 9) ∷ (got (Some (v.Number (pos 1)))) ∷ []);
+    }
     ∷  -- open-without-operations
     record {
       image = (82 ∷ 72 ∷ 83 ∷ 1 ∷ 0 ∷ 0 ∷ 1 ∷ 0 ∷ 0 ∷ 0 ∷ 0 ∷ 0 ∷ 9 ∷ 0 ∷ 0 ∷ 0 ∷ 0 ∷ 0 ∷ 97 ∷ 98 ∷ 99 ∷ 100 ∷ 101 ∷ 102 ∷ 97 ∷ 98 ∷ 99 ∷ []);
@@ -2073,6 +2809,51 @@ table =
       second = [];
       opening = lend 128 16 64;
       calls = ((lend 128 16 64, run false) ∷ []);
+      check = (passes (Some 0));
+      answers = ((refused 8) ∷ []);
+    }
+    ∷  -- open-with-too-many-operations
+    record {
+      image = (82 ∷ 72 ∷ 83 ∷ 1 ∷ 0 ∷ 0 ∷ 1 ∷ 0 ∷ 0 ∷ 0 ∷ 0 ∷ 0 ∷ 9 ∷ 0 ∷ 0 ∷ 0 ∷ 0 ∷ 0 ∷ 97 ∷ 98 ∷ 99 ∷ 100 ∷ 101 ∷ 102 ∷ 97 ∷ 98 ∷ 99 ∷ []);
+      text = (97 ∷ 98 ∷ 99 ∷ 113 ∷ []);
+      operations = 1000000001;
+      names = 8;
+      modules = 0;
+      host = (site []);
+      first = [];
+      second = [];
+      opening = lend 128 16 64;
+      calls = ((lend 128 16 64, run false) ∷ []);
+      check = (passes (Some 0));
+      answers = ((refused 8) ∷ []);
+    }
+    ∷  -- open-without-names
+    record {
+      image = (82 ∷ 72 ∷ 83 ∷ 1 ∷ 0 ∷ 0 ∷ 1 ∷ 0 ∷ 0 ∷ 0 ∷ 0 ∷ 0 ∷ 9 ∷ 0 ∷ 0 ∷ 0 ∷ 0 ∷ 0 ∷ 97 ∷ 98 ∷ 99 ∷ 100 ∷ 101 ∷ 102 ∷ 97 ∷ 98 ∷ 99 ∷ []);
+      text = (97 ∷ 98 ∷ 99 ∷ 113 ∷ []);
+      operations = 1;
+      names = 0;
+      modules = 0;
+      host = (site []);
+      first = [];
+      second = [];
+      opening = lend 128 16 64;
+      calls = ((lend 128 16 64, run false) ∷ []);
+      check = (passes (Some 0));
+      answers = ((refused 8) ∷ []);
+    }
+    ∷  -- open-with-a-bad-limit-and-too-few-rows
+    record {
+      image = (82 ∷ 72 ∷ 83 ∷ 1 ∷ 0 ∷ 0 ∷ 1 ∷ 0 ∷ 0 ∷ 0 ∷ 0 ∷ 0 ∷ 9 ∷ 0 ∷ 0 ∷ 0 ∷ 0 ∷ 0 ∷ 97 ∷ 98 ∷ 99 ∷ 100 ∷ 101 ∷ 102 ∷ 97 ∷ 98 ∷ 99 ∷ []);
+      text = (97 ∷ 98 ∷ 99 ∷ 113 ∷ []);
+      operations = 0;
+      names = 8;
+      modules = 0;
+      host = (site []);
+      first = [];
+      second = [];
+      opening = lend 9 16 64;
+      calls = [];
       check = (passes (Some 0));
       answers = ((refused 8) ∷ []);
     }
@@ -2121,6 +2902,36 @@ table =
       check = (passes (Some 0));
       answers = ((refused 9) ∷ []);
     }
+    ∷  -- open-with-too-few-import-rows
+    record {
+      image = (82 ∷ 72 ∷ 83 ∷ 1 ∷ 0 ∷ 0 ∷ 1 ∷ 0 ∷ 0 ∷ 0 ∷ 0 ∷ 0 ∷ 9 ∷ 0 ∷ 0 ∷ 0 ∷ 0 ∷ 0 ∷ 97 ∷ 98 ∷ 99 ∷ 100 ∷ 101 ∷ 102 ∷ 97 ∷ 98 ∷ 99 ∷ []);
+      text = (97 ∷ 98 ∷ 99 ∷ 113 ∷ []);
+      operations = 1;
+      names = 8;
+      modules = 0;
+      host = (site []);
+      first = [];
+      second = [];
+      opening = lend 10 15 64;
+      calls = [];
+      check = (passes (Some 0));
+      answers = ((refused 9) ∷ []);
+    }
+    ∷  -- open-with-too-few-working-rows
+    record {
+      image = (82 ∷ 72 ∷ 83 ∷ 1 ∷ 0 ∷ 0 ∷ 1 ∷ 0 ∷ 0 ∷ 0 ∷ 0 ∷ 0 ∷ 9 ∷ 0 ∷ 0 ∷ 0 ∷ 0 ∷ 0 ∷ 97 ∷ 98 ∷ 99 ∷ 100 ∷ 101 ∷ 102 ∷ 97 ∷ 98 ∷ 99 ∷ []);
+      text = (97 ∷ 98 ∷ 99 ∷ 113 ∷ []);
+      operations = 1;
+      names = 8;
+      modules = 0;
+      host = (site []);
+      first = [];
+      second = [];
+      opening = lend 10 16 63;
+      calls = [];
+      check = (passes (Some 0));
+      answers = ((refused 9) ∷ []);
+    }
     ∷  -- open-with-the-largest-limits
     record {
       image = (82 ∷ 72 ∷ 83 ∷ 1 ∷ 0 ∷ 0 ∷ 1 ∷ 0 ∷ 1 ∷ 0 ∷ 0 ∷ 0 ∷ 9 ∷ 0 ∷ 0 ∷ 0 ∷ 1 ∷ 0 ∷ 0 ∷ 0 ∷ 1 ∷ 0 ∷ 1 ∷ 0 ∷ 0 ∷ 0 ∷ 0 ∷ 0 ∷ 0 ∷ 0 ∷ 0 ∷ 0 ∷ 0 ∷ 0 ∷ 0 ∷ 0 ∷ 0 ∷ 0 ∷ 97 ∷ 98 ∷ 99 ∷ 100 ∷ 101 ∷ 102 ∷ 97 ∷ 98 ∷ 99 ∷ []);
@@ -2135,21 +2946,6 @@ table =
       calls = ((lend 128 16 64, run false) ∷ []);
       check = (passes (Some 1));
       answers = ((ran (told 0 (value v.Unit) 0 0) 1 [] []) ∷ []);
-    }
-    ∷  -- constant-can-be-read
-    record {
-      image = (82 ∷ 72 ∷ 83 ∷ 1 ∷ 0 ∷ 0 ∷ 1 ∷ 0 ∷ 1 ∷ 0 ∷ 1 ∷ 0 ∷ 9 ∷ 0 ∷ 0 ∷ 0 ∷ 1 ∷ 0 ∷ 4 ∷ 1 ∷ 1 ∷ 0 ∷ 1 ∷ 0 ∷ 0 ∷ 0 ∷ 0 ∷ 0 ∷ 0 ∷ 0 ∷ 1 ∷ 0 ∷ 1 ∷ 0 ∷ 0 ∷ 0 ∷ 0 ∷ 0 ∷ 0 ∷ 0 ∷ 1 ∷ 0 ∷ 5 ∷ 0 ∷ 0 ∷ 0 ∷ 97 ∷ 98 ∷ 99 ∷ 100 ∷ 101 ∷ 102 ∷ 97 ∷ 98 ∷ 99 ∷ []);
-      text = (97 ∷ 98 ∷ 99 ∷ 113 ∷ []);
-      operations = 50;
-      names = 8;
-      modules = 0;
-      host = (site ((Operand (Constant (w.Number (pos 8)))) ∷ []));
-      first = [];
-      second = [];
-      opening = lend 128 16 64;
-      calls = ((lend 128 16 64, run false) ∷ (lend 128 16 64, read 1 1) ∷ []);
-      check = (passes (Some 2));
-      answers = ((ran (told 0 (value v.Unit) 0 0) 2 ((variable (place Rule 1 1) ConstantAccess (v.Number (pos 8))) ∷ []) []) ∷ (got (Some (v.Number (pos 8)))) ∷ []);
     }
     ∷  -- difference-index-beyond-names
     record {
@@ -2234,6 +3030,21 @@ table =
       names = 1;
       modules = 0;
       host = (scripted ((evaluation (Append (place Site 3 1) v.Unit) Nothing (eval.Value (v.Range (pos 0) (pos 0)))) ∷ []) []);
+      first = [];
+      second = [];
+      opening = lend 128 16 64;
+      calls = ((lend 128 16 64, run false) ∷ []);
+      check = (passes None);
+      answers = ((ran (told 14 nothing 1 1) 2 ((variable (place Site 3 1) ReadWrite v.Unit) ∷ []) []) ∷ []);
+    }
+    ∷  -- difference-variable-limit-not-repeated-before-a-faulty-item
+    record {
+      image = (82 ∷ 72 ∷ 83 ∷ 1 ∷ 0 ∷ 0 ∷ 1 ∷ 0 ∷ 1 ∷ 0 ∷ 1 ∷ 0 ∷ 9 ∷ 0 ∷ 0 ∷ 0 ∷ 1 ∷ 0 ∷ 9 ∷ 0 ∷ 1 ∷ 0 ∷ 1 ∷ 0 ∷ 0 ∷ 0 ∷ 255 ∷ 255 ∷ 0 ∷ 0 ∷ 0 ∷ 0 ∷ 1 ∷ 0 ∷ 0 ∷ 0 ∷ 0 ∷ 0 ∷ 0 ∷ 0 ∷ 1 ∷ 0 ∷ 5 ∷ 0 ∷ 0 ∷ 0 ∷ 97 ∷ 98 ∷ 99 ∷ 100 ∷ 101 ∷ 102 ∷ 97 ∷ 98 ∷ 99 ∷ []);
+      text = (97 ∷ 98 ∷ 99 ∷ 113 ∷ []);
+      operations = 9;
+      names = 1;
+      modules = 0;
+      host = (scripted ((evaluation (Append (place Site 3 1) v.Unit) Nothing (eval.Value (v.Seq 101))) ∷ []) []);
       first = [];
       second = [];
       opening = lend 128 16 64;

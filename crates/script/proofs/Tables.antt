@@ -8,11 +8,11 @@ use lib.ListN.{length, getD, drop, set}
 use lib.Dec.{ltb, leb}
 use Rattle.std.specs.declared.option.Option.{Option}
 use Rattle.std.specs.declared.option.Option.the-variants.{Some, None}
-use Rattle.std.proofs.shelf.Lists.{length-append, length-drop, length-push, length-set, drop-more, drop-drop, drop-at, set-at, set-append-left, getD-append-left}
+use Rattle.std.proofs.shelf.Lists.{length-append, length-drop, length-push, length-set, drop-more, set-at, set-append-left, getD-append-left}
 use Rattle.std.proofs.shelf.Tests.{ltb-true, leb-true, lt-ltb, and-parts, cond-true}
 use Rattle.rows.specs.declared.variable.Access.the-variants.{ReadWrite}
 use Rattle.rows.specs.Rows.{inUse, variable, revalued}
-use Rattle.host.specs.Meaning.{over, Step, Leaves}
+use Rattle.host.specs.Meaning.{over}
 use Rattle.host.proofs.Steps.{length-in-use, over-none}
 use Rattle.script.specs.declared.answer.EvalAnswer.{EvalAnswer}
 use Rattle.script.specs.declared.answer.EvalAnswer.the-variants.{Value, Fault, Exit, Code, Mark, Names, Row as RowBack}
@@ -25,17 +25,6 @@ use Rattle.script.specs.Effects.{Row, noRow, backOf, changed, valueIn, done, b
 -- rows laid over a table that has room for them leave its length
 length-over : (rows vars : List Row) → length rows ≤ length vars → length (over rows vars) ≡ length vars
 length-over rows vars le = omega (arith, length-append rows (drop (length rows) vars), length-drop (length rows) vars)
-
--- behind the rows laid over it, a table is as it was
-drop-over : (a vars : List Row) (n : ℕ) → length a ≤ n → drop n (over a vars) ≡ drop n vars
-drop-over a vars n le =
-    let split : n ≡ length a + (n - length a) = omega arith in
-    let m = n - length a in
-    ap (λ k. drop k (over a vars)) split ∙ sym (drop-drop m (length a) (over a vars)) ∙ ap (drop m) (drop-at a (drop (length a) vars) (length a) refl)
-    ∙ drop-drop m (length a) vars ∙ ap (λ k. drop k vars) (sym split)
-
-over-over : (a b vars : List Row) → length a ≤ length b → over b (over a vars) ≡ over b vars
-over-over a b vars le = ap (λ x. b ++ x) (drop-over a vars (length b) le)
 
 -- one row more
 over-push : (rows vars : List Row) (row : Row) → length rows < length vars → set (over rows vars) (length rows) row ≡ over (rows ++ (row ∷ [])) vars

@@ -6,7 +6,6 @@ use lib.ListN.{length, getD, set}
 use lib.Dec.{ltb, leb}
 use Rattle.std.specs.declared.option.Option.{Option}
 use Rattle.std.specs.declared.option.Option.the-variants.{Some, None}
-use Rattle.rows.specs.declared.place.Place.{Place}
 use Rattle.rows.specs.declared.variable.Access.the-variants.{ReadWrite}
 use Rattle.rows.specs.declared.variable.VarRow.{VarRow}
 use Rattle.rows.specs.Rows.{variable, revalued, blankVariable}

@@ -1,18 +1,17 @@
--- effects change the variables only as a host may
-use mathlib.Core.Bool.{Bool, true, false, cond, _&&_}
+-- effects change the variables only as a host may; the laws of a host are cited by a contract, so their lemmas stand here
+use mathlib.Core.Bool.{Bool, true, false, cond}
 use mathlib.Core.List.{List, [], _∷_, _++_, map}
-use mathlib.Core.Logic.{inl, inr, _≢_}
+use mathlib.Core.Logic.{inl, inr}
 use mathlib.Core.Path.{_≡_, refl, sym, ap, _∙_}
-use Prim.Native.Nat.{ℕ, _+_, _-_, _≤_, _<_, max}
+use Prim.Native.Nat.{ℕ, _+_, _-_, _≤_, _<_}
 use native.Mathlib.Omega.{arith}
 use lib.ListN.{length, getD, take, set}
-use lib.Dec.{ltb, leb}
+use lib.Dec.{ltb}
 use Rattle.std.specs.declared.option.Option.{Option}
 use Rattle.std.specs.declared.option.Option.the-variants.{Some, None}
 use Rattle.std.proofs.shelf.Lists.{length-push, length-set, take-all, take-at, take-map, take-take, map-set, set-getD, getD-map, getD-take, getD-push, length-take-le}
 use Rattle.std.proofs.shelf.Tests.{ltb-true, cases-lt}
 use Rattle.rows.specs.declared.place.Place.{Place}
-use Rattle.rows.specs.declared.variable.Access.{Access}
 use Rattle.rows.specs.declared.variable.Access.the-variants.{ReadWrite}
 use Rattle.rows.specs.declared.variable.VarRow.{VarRow}
 use Rattle.rows.specs.Rows.{variable, revalued}

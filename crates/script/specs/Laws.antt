@@ -1,7 +1,6 @@
 -- the scripted host keeps the rules of hosts
 use mathlib.Core.Bool.{Bool, true, false, cond, _&&_}
-use mathlib.Core.List.{List}
-use mathlib.Core.Path.{_≡_, refl, ap, _∙_}
+use mathlib.Core.Path.{_≡_, refl}
 use Prim.Native.Nat.{ℕ, _≤_, _%_, _/_}
 use native.Mathlib.Omega.{arith}
 use denote.Ref.{now}
@@ -12,12 +11,10 @@ use Rattle.std.specs.declared.option.Option.the-variants.{Some}
 use Rattle.std.proofs.shelf.Tests.{cond-true, le-leb}
 use Rattle.host.specs.declared.answers.Item.{Item}
 use Rattle.host.specs.declared.answers.Item.the-variants.{Item as One, Fault as Failed, End, NotIterable}
-use Rattle.host.specs.Meaning.{HostLaws, Grown, mostWhole}
-use Rattle.script.specs.declared.effect.Effect.{Effect}
+use Rattle.host.specs.Meaning.{HostLaws, mostWhole}
 use Rattle.script.specs.declared.value.ScriptValue.{ScriptValue}
 use Rattle.script.specs.declared.value.ScriptValue.the-variants.{Unit as TheUnit, Truth, Number, Range, Seq}
-use Rattle.script.specs.Effects.{Row, bothDone}
-use Rattle.script.specs.Items.{itemOf, faultOfKind, seqItem}
+use Rattle.script.specs.Items.{itemOf, faultOfKind}
 use Rattle.script.specs.Meaning.{evalEntry, allowEntry, scriptMeaning}
 use Rattle.script.specs.Values.{numberUpTo}
 use Rattle.script.specs.Growing.{grown-both}

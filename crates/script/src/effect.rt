@@ -1,8 +1,7 @@
 ghost use mathlib.Core.Bool.{cond};
 ghost use mathlib.Core.Path.{_≡_};
-ghost use Prim.Native.Nat.{ℕ, _+_, _≤_, min};
+ghost use Prim.Native.Nat.{_+_, min};
 ghost use lib.ListN.{length, set};
-ghost use lib.Dec.{ltb};
 ghost use Rattle.host.specs.Meaning.{over};
 ghost use Rattle.rows.specs.Rows.{inUse};
 ghost use Rattle.script.specs.Effects.{backOf, roomFor, changed, valueIn, tableAfter, usedAfter, bothDone};

@@ -63,7 +63,7 @@ const NO_ALLOW: AllowEntry = AllowEntry {
     answer: AllowAnswer::Yes,
 };
 
-/// The largest whole number and the largest path that a value is read as.
+/// The largest whole number that a value is read as.
 const MOST_WHOLE: u32 = 1_000_000_000;
 
 fn eval_entry(evals: &[EvalEntry], count: usize) -> EvalEntry

@@ -1,6 +1,6 @@
 //! Short names for statements.
 
-use crate::rule::{Name, Node, Stmt, E};
+use crate::rule::{Body, Name, Node, Stmt, E};
 
 /// The text of every rule made by hand.
 pub const TEXT: &[u8] = b"abcdefabc";
@@ -8,7 +8,7 @@ pub const TEXT: &[u8] = b"abcdefabc";
 /// The expression of code 0; a scripted host does not look at the code.
 pub const H: E = E::host(0);
 
-fn name(letter: char) -> Name {
+pub fn name(letter: char) -> Name {
     let offset = TEXT.iter().position(|&byte| char::from(byte) == letter);
     Name {
         offset: offset.expect("a letter of the text") as u16,
@@ -18,6 +18,14 @@ fn name(letter: char) -> Name {
 
 pub fn stmt(node: Node) -> Stmt {
     node.into()
+}
+
+/// A block that is a row of no statements.
+pub fn empty_row() -> Body {
+    Body {
+        statements: Vec::new(),
+        empty_row: true,
+    }
 }
 
 pub fn var(letter: char, constant: bool, index: u16, e: E) -> Stmt {

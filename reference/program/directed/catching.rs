@@ -2,7 +2,7 @@
 
 use super::build::*;
 use super::Draft;
-use crate::rule::{Stmt, E};
+use crate::rule::{Name, Node, Stmt, E};
 
 pub fn catching() -> Vec<Draft> {
     vec![
@@ -129,6 +129,71 @@ pub fn catching() -> Vec<Draft> {
             vec![try_(vec![let_('a', H), let_('b', H)], None, vec![])],
             "limits 50 1 0\nhost script",
         ),
+        (
+            "operations-cannot-be-caught",
+            vec![try_(vec![noop(), noop()], None, vec![])],
+            "limits 2 10 0",
+        ),
+        (
+            "modules-cannot-be-caught",
+            vec![try_(vec![import(H, None)], None, vec![])],
+            "limits 50 10 0\nhost script\neval value int 1\ntable\npath 1 module 7",
+        ),
+        (
+            "host-fault-in-a-catch-is-no-throw",
+            vec![try_(vec![throw(Some(H))], None, vec![expr(H)])],
+            "limits 50 10 0\nhost script\neval value int 4\neval fault 2 0 0 1",
+        ),
+        (
+            "named-catch-at-the-limit-without-fault",
+            vec![let_('a', H), try_(vec![expr(H)], Some('e'), vec![])],
+            "limits 50 1 0\nhost script\neval value int 1\neval value int 3",
+        ),
+        (
+            "exit-in-a-catch",
+            vec![try_(vec![throw(None)], Some('e'), vec![expr(H)])],
+            "limits 50 10 0\nhost script\neval exit int 6\nrun 0\nrun 1",
+        ),
+    ]
+}
+
+/// What a caught fault has as value.
+pub fn caught_values() -> Vec<Draft> {
+    let caught = |body: Vec<Stmt>| try_(body, Some('e'), vec![return_(Some(H))]);
+    vec![
+        (
+            "caught-refused-name-is-its-number",
+            vec![caught(vec![let_('a', E::UNIT)])],
+            "limits 50 10 0\nhost script\neval row 1\nallow no",
+        ),
+        (
+            "caught-wrong-kind-is-its-number",
+            vec![caught(vec![if_(E::UNIT, vec![], vec![])])],
+            "limits 50 10 0\nhost script\neval row 1",
+        ),
+        (
+            "caught-value-that-is-not-iterable-is-its-number",
+            vec![caught(vec![for_('a', E::UNIT, vec![])])],
+            "limits 50 10 0\nhost script\neval row 1",
+        ),
+        (
+            "caught-constant-is-its-number",
+            vec![const_('a', E::UNIT), caught(vec![assign('a', E::TRUE)])],
+            "limits 50 10 0\nhost script\neval row 1",
+        ),
+        (
+            "caught-unknown-operator-is-its-number",
+            vec![
+                let_('a', E::UNIT),
+                caught(vec![assign_with('a', 65_535, 0, E::TRUE)]),
+            ],
+            "limits 50 10 0\nhost script\neval row 1",
+        ),
+        (
+            "caught-import-not-found-is-its-number",
+            vec![caught(vec![import(H, None)])],
+            "limits 50 10 1\nhost script\neval value int 2\neval row 1",
+        ),
     ]
 }
 
@@ -139,6 +204,22 @@ pub fn imports() -> Vec<Draft> {
             vec![import(H, Some('a')), import(H, None)],
             "limits 50 10 2\nhost script\neval value int 1\neval value int 2\n\
              table\npath 1 module 7\npath 2 module 0",
+        ),
+        (
+            "import-without-name-at-an-offset",
+            vec![stmt(Node::Import {
+                e: H,
+                name: Some(Name {
+                    offset: 3,
+                    length: 0,
+                }),
+            })],
+            "limits 50 10 1\nhost script\neval value int 1\ntable\npath 1 module 7",
+        ),
+        (
+            "each-run-starts-without-modules",
+            vec![import(H, Some('a'))],
+            "limits 50 10 1\nhost script\neval value int 1\ntable\npath 1 module 7\nrun 0\nrun 0",
         ),
         (
             "imports-of-a-block-go-but-count",

@@ -23,6 +23,11 @@ pub fn differences() -> Vec<Draft> {
             "limits 9 2 0\nhost script\neval append 1 3 1 unit value range 0 1\neval exit unit",
         ),
         (
+            "difference-variable-limit-not-repeated-before-a-faulty-item",
+            vec![for_('a', H, vec![])],
+            "limits 9 1 0\nhost script\neval append 1 3 1 unit value seq 101",
+        ),
+        (
             "difference-index-kept-while-mark-is-on",
             vec![let_at(1, 'a', H)],
             "limits 9 9 0\nhost script\neval append 1 3 1 unit value int 1\nput 0 1 unit\nrun 0",

@@ -101,6 +101,11 @@ pub fn endings() -> Vec<Draft> {
             "limits 50 10 0\nhost list\nentry value int 3",
         ),
         (
+            "if-by-a-number",
+            vec![if_(H, vec![noop()], vec![])],
+            "limits 50 10 0\nhost script\neval value int 3",
+        ),
+        (
             "if-without-else",
             vec![if_(E::FALSE, vec![noop()], vec![])],
             "limits 50 10 0",
@@ -158,7 +163,51 @@ pub fn sessions() -> Vec<Draft> {
             "limits 50 8 0\nlend 10 16 64\nput 0 1 unit\nlend 9 16 64\nput 9 1 unit\nread 0 1\n\
              rewind 0\nrun 0\nlend 10 15 64\nrun 0\nlend 10 16 63\nrun 0\nlend 10 16 64\nrun 0",
         ),
+        (
+            "put-of-a-present-name",
+            vec![],
+            "limits 50 8 0\nput 0 1 int 1\nput 0 1 int 2\nread 0 1\nrun 0\nrewind 1\nread 0 1",
+        ),
+        (
+            "constant-can-be-read",
+            vec![const_('b', H)],
+            "limits 50 8 0\nhost site\ncode const int 8\nrun 0\nread 1 1",
+        ),
+    ]
+}
+
+/// Refused calls, and open.
+pub fn refusals() -> Vec<Draft> {
+    vec![
+        (
+            "put-of-no-name-when-full",
+            vec![],
+            "limits 50 1 0\nput 0 1 unit\nput 0 0 unit\nput 0 1 unit",
+        ),
+        (
+            "calls-with-too-few-import-rows",
+            vec![],
+            "limits 50 8 0\nlend 10 16 64\nput 0 1 int 1\nlend 10 15 64\nput 0 1 int 2\n\
+             read 0 1\nrewind 0\nlend 10 16 64\nread 0 1",
+        ),
+        (
+            "calls-with-too-few-working-rows",
+            vec![],
+            "limits 50 8 0\nlend 10 16 64\nput 0 1 int 1\nlend 10 16 63\nput 0 1 int 2\n\
+             read 0 1\nrewind 0\nlend 10 16 64\nread 0 1",
+        ),
         ("open-without-operations", vec![], "limits 0 8 0"),
+        (
+            "open-with-too-many-operations",
+            vec![],
+            "limits 1000000001 8 0",
+        ),
+        ("open-without-names", vec![], "limits 1 0 0"),
+        (
+            "open-with-a-bad-limit-and-too-few-rows",
+            vec![],
+            "limits 0 8 0\nlend 9 16 64",
+        ),
         ("open-with-too-many-names", vec![], "limits 1 127 0"),
         ("open-with-too-many-modules", vec![], "limits 1 126 17"),
         (
@@ -167,14 +216,19 @@ pub fn sessions() -> Vec<Draft> {
             "limits 1 126 16\nlend 127 16 64",
         ),
         (
+            "open-with-too-few-import-rows",
+            vec![],
+            "limits 1 8 0\nlend 10 15 64",
+        ),
+        (
+            "open-with-too-few-working-rows",
+            vec![],
+            "limits 1 8 0\nlend 10 16 63",
+        ),
+        (
             "open-with-the-largest-limits",
             vec![noop()],
             "limits 1000000000 126 16\nlend 128 16 64\nrun 0",
-        ),
-        (
-            "constant-can-be-read",
-            vec![const_('b', H)],
-            "limits 50 8 0\nhost site\ncode const int 8\nrun 0\nread 1 1",
         ),
     ]
 }

@@ -64,6 +64,46 @@ pub fn loops() -> Vec<Draft> {
             "limits 50 10 0\nhost script\neval value int 8",
         ),
         (
+            "continue-through-try-and-catch",
+            vec![while_(
+                H,
+                vec![
+                    try_(
+                        vec![throw(None)],
+                        Some('e'),
+                        vec![try_(vec![continue_(None)], None, vec![noop()])],
+                    ),
+                    return_(None),
+                ],
+            )],
+            "limits 50 10 0\nhost script\neval value true\neval value false",
+        ),
+        (
+            "while-gives-unit-after-a-value",
+            vec![while_(H, vec![expr(H)])],
+            "limits 50 10 0\nhost script\neval value true\neval value int 3\neval value false",
+        ),
+        (
+            "do-gives-unit-after-a-value",
+            vec![do_while(vec![expr(H)], H)],
+            "limits 50 10 0\nhost script\neval value int 3\neval value false",
+        ),
+        (
+            "for-gives-unit-after-a-value",
+            vec![for_('a', H, vec![expr(H)])],
+            "limits 50 10 0\nhost script\neval value seq 1\neval value int 3",
+        ),
+        (
+            "do-evaluates-a-constant-condition",
+            vec![do_while(vec![], E::TRUE)],
+            "limits 3 10 0",
+        ),
+        (
+            "do-broken-with-a-value",
+            vec![do_while(vec![break_(Some(H))], E::TRUE)],
+            "limits 50 10 0\nhost script\neval value int 3",
+        ),
+        (
             "names-of-a-round-go",
             vec![while_(H, vec![let_('a', H)]), expr(H)],
             "limits 50 10 0\nhost script\neval value true\neval value int 1\n\

@@ -1,5 +1,6 @@
 //! Cases made by hand: one for each thing that has to be kept, under the name of the thing.
 
+mod blocks;
 mod build;
 mod catching;
 mod differences;
@@ -7,8 +8,8 @@ mod endings;
 mod loops;
 mod variables;
 
-use crate::rule::{assemble, Body, Node, Stmt};
-use build::{block, break_, noop, stmt, TEXT};
+use crate::rule::{assemble, Node, Stmt};
+use build::{block, break_, empty_row, noop, stmt, TEXT};
 use rules::case::{parse_cases, Case};
 use rules::session::Call;
 use rules::text::to_hex;
@@ -38,12 +39,17 @@ pub fn cases() -> Vec<Case> {
         variables::variables(),
         variables::assignments(),
         variables::marks(),
+        blocks::blocks(),
+        blocks::empty_rows(),
+        blocks::levels(),
         loops::loops(),
         loops::for_loops(),
         catching::catching(),
+        catching::caught_values(),
         catching::imports(),
         endings::endings(),
         endings::sessions(),
+        endings::refusals(),
         differences::differences(),
     ];
     drafts.into_iter().flatten().map(finish).collect()
@@ -91,11 +97,7 @@ pub fn image_cases() -> Vec<Case> {
 
 /// Blocks one inside the other, so many below block 0.
 fn nested(depth: usize) -> Vec<Stmt> {
-    let innermost = Body {
-        statements: Vec::new(),
-        empty_row: true,
-    };
-    let mut rule = vec![stmt(Node::Block(innermost))];
+    let mut rule = vec![stmt(Node::Block(empty_row()))];
     for _ in 1..depth {
         rule = vec![block(rule)];
     }

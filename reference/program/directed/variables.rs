@@ -57,6 +57,16 @@ pub fn variables() -> Vec<Draft> {
             "limits 100 10 0\nhost script\nallow yes\nallow present",
         ),
         (
+            "allow-is-told-what-is-absent",
+            vec![let_('a', H)],
+            "limits 100 10 0\nhost script\nallow present",
+        ),
+        (
+            "allow-is-told-what-is-constant",
+            vec![const_('a', E::UNIT), let_('b', E::UNIT)],
+            "limits 100 10 0\nhost script\nallow constant",
+        ),
+        (
             "allow-comes-before-the-limit",
             vec![let_('a', H)],
             "limits 100 1 0\nhost script\nallow append 1 0 1 int 1 no",
@@ -101,6 +111,12 @@ pub fn assignments() -> Vec<Draft> {
             "assignment-to-a-site-name",
             vec![assign('a', H)],
             "limits 100 10 0\nhost script\neval value int 3\nput 0 1 int 1\nrun 0\nread 0 1",
+        ),
+        (
+            "assignment-to-the-last-of-two-names",
+            vec![let_('a', H), assign('a', H)],
+            "limits 100 10 0\nhost script\neval value int 2\neval value int 3\n\
+             put 0 1 int 1\nrun 0\nread 0 1",
         ),
         (
             "third-charge-of-an-assignment",

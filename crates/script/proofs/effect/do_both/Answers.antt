@@ -3,7 +3,7 @@ use Prim.Native.Nat.{min}
 use lib.ListN.{length}
 use Rattle.rows.specs.Rows.{inUse}
 use Rattle.script.specs.Effects.{done}
-use Rattle.script.proofs.Tables.{Holds, holds-none, holds-more}
+use Rattle.script.proofs.Tables.{holds-none, holds-more}
 use Rattle.script.proofs.effect.do_both.Needs as need
 
 pub returns : need.returns
