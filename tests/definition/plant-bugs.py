@@ -1,10 +1,11 @@
 #!/usr/bin/env python3
 """Plants bugs in the definition of a run and asks the samples about each.
 
-    tests/definition/plant-bugs.py [NAME ...]
+    tests/definition/plant-bugs.py [NAME ... | PART/OF]
 
-For each bug the definition is copied to a scratch folder, changed in one place, and the samples are proved against it
-without the promise. A bug that the samples do not refute is then put to the promise. The last line says how many survive.
+In a scratch copy of the repository, whose promises are left out, the definition is changed in one place, and the samples
+are put to it. A bug that the samples do not refute is left over. The last line says how many are. 2/3 is the second third
+of the bugs.
 """
 import os
 import re
@@ -90,7 +91,7 @@ def scratch():
 
 
 def proved(folder, crate):
-    done = subprocess.run(["rt", "check", "crates/" + crate], cwd=folder, stdout=subprocess.PIPE, stderr=subprocess.STDOUT, text=True)
+    done = subprocess.run(["rt", "check", crate], cwd=folder, stdout=subprocess.PIPE, stderr=subprocess.STDOUT, text=True)
     return done.returncode == 0, done.stdout
 
 
@@ -120,7 +121,7 @@ def restore(folder, file):
     shutil.copy(os.path.join(ROOT, SPECS, file + ".antt"), os.path.join(folder, SPECS, file + ".antt"))
 
 
-def verdict(bare, file):
+def verdict(bare):
     good, said = proved(bare, "samples")
     if good:
         return "survives the samples"
@@ -129,28 +130,33 @@ def verdict(bare, file):
     return "refuted by a sample"
 
 
+def chosen(words):
+    part = re.fullmatch(r"(\d+)/(\d+)", words[0]) if words else None
+    if part:
+        return BUGS[int(part[1]) - 1 :: int(part[2])]
+    return [b for b in BUGS if not words or b[0] in words]
+
+
 def main():
-    wanted = sys.argv[1:]
+    bugs = chosen(sys.argv[1:])
     bare = scratch()
     unpromised(bare)
     good, said = proved(bare, "samples")
     if not good:
         sys.exit("the definition as it stands does not pass:\n" + said[-3000:])
     left = []
-    for name, file, old, new in BUGS:
-        if wanted and name not in wanted:
-            continue
+    for name, file, old, new in bugs:
         if old == new or not plant(bare, file, old, new):
             print(f"not planted: {name}", flush=True)
             left.append(name)
             continue
-        says = verdict(bare, file)
+        says = verdict(bare)
         restore(bare, file)
         print(f"{says}: {name}", flush=True)
         if says != "refuted by a sample":
             left.append(name)
     shutil.rmtree(bare)
-    print(f"{len(left)} left of {len(wanted) or len(BUGS)}")
+    print(f"{len(left)} left of {len(bugs)}")
 
 
 if __name__ == "__main__":
