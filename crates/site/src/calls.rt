@@ -28,8 +28,8 @@ use host::View;
 use image::Position;
 use rows::VarRow;
 
-/// A host that evaluates the expressions of a table, by code. It is generic in the table, and has no lifetime parameter,
-/// because no proof is made for an impl with a lifetime parameter where the trait has a law.
+/// A host that evaluates the expressions of a table, by code. It is generic in the table, so that it knows nothing of how
+/// the expressions are held.
 #[derive(Clone, Copy)]
 pub struct TableHost<T> {
     table: T,
