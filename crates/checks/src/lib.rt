@@ -1,4 +1,5 @@
 //! Three tests of an image's tables, each over all rows.
+#![tactic(auto)]
 
 mod naming;
 mod order;

@@ -1,4 +1,5 @@
 //! What a host is: the calls by which a run asks for values, and what they mean.
+#![tactic(auto)]
 
 mod answers;
 mod host;

@@ -1,4 +1,5 @@
 //! Prints what the list host, the scripted host and the resolvers answer to a table of calls, one line each.
+#![tactic(auto)]
 
 mod list_cases;
 mod resolve_cases;

@@ -1,4 +1,5 @@
 //! The rule image: its header, its tables, and its rows.
+#![tactic(auto)]
 
 mod decode;
 mod fields;

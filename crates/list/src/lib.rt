@@ -1,4 +1,5 @@
 //! The list host: each evaluation takes the next entry of a lent list.
+#![tactic(auto)]
 
 mod list_host;
 mod value;

@@ -1,4 +1,5 @@
 //! Holds the reading of names and the named list to a table of cases, and prints a line for each.
+#![tactic(auto)]
 
 mod appends;
 mod kinds;

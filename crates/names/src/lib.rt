@@ -1,4 +1,5 @@
 //! A list of named rows, on rows that the caller lends with the number of those in use.
+#![tactic(auto)]
 
 ghost use Rattle.std.specs.Prelude.{◌≡◌, ℕ, ◌<◌, ◌≤◌, length, take};
 ghost use Rattle.rows.specs.Rows.{in_use};

@@ -1,4 +1,5 @@
 //! How a run ends.
+#![tactic(auto)]
 
 ghost use Rattle.std.specs.Prelude.{◌≡◌};
 ghost use Rattle.outcome.specs.Faults.{number, catchable, outcome_number, refusal_number};

@@ -1,4 +1,5 @@
 //! Reads one rule image from standard input and prints its quote or its refusal.
+#![tactic(auto)]
 
 use std::io::Read;
 use verdict::judge;

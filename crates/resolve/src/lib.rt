@@ -1,4 +1,5 @@
 //! Resolvers: what stands under the path of an import.
+#![tactic(auto)]
 
 mod pair;
 mod resolver;

@@ -1,4 +1,5 @@
 //! Names, and the rows that have one.
+#![tactic(auto)]
 
 mod import;
 mod place;

@@ -1,4 +1,5 @@
 //! A checked rule, and its quote.
+#![tactic(auto)]
 
 mod checked;
 mod examine;

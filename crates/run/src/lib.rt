@@ -1,4 +1,5 @@
 //! What a run is, and what is promised of it.
+#![tactic(auto)]
 
 ghost use Rattle.std.specs.Prelude.{ℕ};
 ghost use Rattle.run.specs.Promise.{Promise, EveryRunEnds};

@@ -1,4 +1,5 @@
 //! Samples of runs, by computation.
+#![tactic(auto)]
 
 ghost use Rattle.samples.specs.Samples.{Stands};
 ghost use Rattle.samples.specs.Table.{table};

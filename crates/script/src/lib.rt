@@ -1,4 +1,5 @@
 //! The scripted host: it does all that a host may do, as a lent script says, so that callers can be tried with it.
+#![tactic(auto)]
 
 mod answer;
 mod effect;

@@ -1,4 +1,5 @@
 //! The rows of a rule image outside of an image, and the image that is written of them.
+#![tactic(auto)]
 
 mod bytes;
 mod encode;

@@ -1,4 +1,5 @@
 //! A host with numbers and ranges, whose expressions stand in a table.
+#![tactic(auto)]
 
 mod calls;
 mod expr;

@@ -1,4 +1,5 @@
 //! Asks the site host a table of questions, and prints each with its answer.
+#![tactic(auto)]
 
 mod evaluations;
 mod operands;

@@ -13,6 +13,7 @@
 //! | `resolve 3` | asks the resolver for a path |
 //!
 //! Words stand apart. Empty lines, and lines that begin with `#`, do nothing.
+#![tactic(auto)]
 
 mod described;
 mod line;

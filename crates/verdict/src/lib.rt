@@ -1,4 +1,5 @@
 //! The verdict on an image, told in one line.
+#![tactic(auto)]
 
 ghost use Rattle.std.specs.Prelude.{◌≡◌, Some};
 ghost use Rattle.rule.specs.Checked.{checked};

@@ -2,6 +2,7 @@
 //!
 //! A line is a name and then segments of the image: bytes in hexadecimal, with `*COUNT` behind them where they are
 //! repeated. A line with a name alone has an empty image.
+#![tactic(auto)]
 
 use anyhow::anyhow;
 use std::alloc::{AllocError, Global};

@@ -16,7 +16,7 @@ returns-then-counts-n-ne1 c =
     let all = ap (λ (l : Layout). l.blocks) c.layout-layout.ensures in
     let lt : n < (layout_of s).blocks = omega arith in
     let low : n < 256 = omega arith in
-    let counted = c.count-namings-counts.ensures n low in
+    let counted = c.count_namings-counts.ensures n low in
     sym (all_fails once (layout_of s).blocks n lt
     (or_from (eqb n 0) (eqb (namings s n) 1) (ne_eqb n 0 (λ e. omega arith)) (ne_eqb (namings s n) 1 (λ e. c.if-counts-n-ne1.true (counted ∙ e)))))
 
@@ -28,5 +28,5 @@ loop-n-preserved c =
     let few = few-blocks s c.args.tables.now.sized in
     let all = ap (λ (l : Layout). l.blocks) c.layout-layout.ensures in
     let low : n < 256 = omega arith in
-    let counted = c.count-namings-counts.ensures n low in
+    let counted = c.count_namings-counts.ensures n low in
     all_more once n c.loop-n.invariant (or_right (eqb n 0) (eqb (namings s n) 1) (eq-eqb (namings s n) 1 (sym counted ∙ c.if-counts-n-ne1.false)))

@@ -7,4 +7,4 @@ use Rattle.rule.proofs.examine.examine.Goals as goal
 pub returns : goal.returns
 returns c =
     c.settle.ensures ∙ ap (λ (x : Summary). settled x) c.outermost.ensures
-    ∙ settles c.args.tables.now.image.now (sym c.if-not-in-order.ensures) (sym c.if-not-all-sound.ensures) (sym c.if-not-named-once.ensures)
+    ∙ settles c.args.tables.now.image.now (sym c.if-not-in_order.ensures) (sym c.if-not-all_sound.ensures) (sym c.if-not-named_once.ensures)

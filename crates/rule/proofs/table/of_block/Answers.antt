@@ -9,8 +9,8 @@ use Rattle.rule.proofs.Costs.{row-cost, plus-value, joined-more}
 use Rattle.rule.proofs.Sums.{part}
 use Rattle.rule.proofs.table.of_block.Goals as goal
 
-pub of-row-requires : goal.of-row-requires
-of-row-requires c =
+pub of_row-requires : goal.of_row-requires
+of_row-requires c =
     let s = c.args.tables.now.image.now in
     let all = ap (λ (x : Block). x.count) c.block-block.ensures in
     let lt : c.loop-k.k < (block s c.args.b).count = omega arith in
@@ -24,7 +24,7 @@ joined-sum-requires c =
     let all = ap (λ (x : Block). x.count) c.block-block.ensures in
     let lt : c.loop-k.k < (block s c.args.b).count = omega arith in
     let h = part (cost s f c.args.b) (block s c.args.b).count c.loop-k.k lt in
-    let e = ap (λ (x : Summary). value x.quote) c.of-row.ensures in
+    let e = ap (λ (x : Summary). value x.quote) c.of_row.ensures in
     let u = row-cost s f c.args.b c.loop-k.k in
     omega (arith, c.requires.costs, c.loop-k.invariant.1)
 
@@ -32,11 +32,11 @@ pub loop-k-preserved : goal.loop-k-preserved
 loop-k-preserved c =
     let s = c.args.tables.now.image.now in
     let f = entry c.args.table.now in
-    let e = ap (λ (x : Summary). value x.quote) c.of-row.ensures in
+    let e = ap (λ (x : Summary). value x.quote) c.of_row.ensures in
     let j = ap (λ (x : Summary). value x.quote) c.joined-sum.ensures in
     let u = row-cost s f c.args.b c.loop-k.k in
-    let v = plus-value c.loop-k.sum.quote c.of-row.result.quote in
+    let v = plus-value c.loop-k.sum.quote c.of_row.result.quote in
     let m = sum_more (cost s f c.args.b) c.loop-k.k in (
-      c.joined-sum.ensures ∙ joined-more (of_row s f c.args.b) c.loop-k.k c.loop-k.sum c.of-row.result c.loop-k.invariant.0 c.of-row.ensures,
+      c.joined-sum.ensures ∙ joined-more (of_row s f c.args.b) c.loop-k.k c.loop-k.sum c.of_row.result c.loop-k.invariant.0 c.of_row.ensures,
       omega (arith, c.loop-k.invariant.1),
     )

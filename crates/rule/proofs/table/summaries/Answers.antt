@@ -8,8 +8,8 @@ pub loop-b-init : goal.loop-b-init
 loop-b-init c =
     filled_none c.args.tables.now.image.now c.requires.naming c.layout-layout.result.blocks (ap (λ (l : Layout). l.blocks) c.layout-layout.ensures)
 
-pub of-block-requires : goal.of-block-requires
-of-block-requires c =
+pub of_block-requires : goal.of_block-requires
+of_block-requires c =
     let s = c.args.tables.now.image.now in
     let all = ap (λ (l : Layout). l.blocks) c.layout-layout.ensures in
     let few : c.loop-b.b ≤ (layout_of s).blocks = omega arith in
@@ -21,4 +21,4 @@ loop-b-preserved c =
     let all = ap (λ (l : Layout). l.blocks) c.layout-layout.ensures in
     let few : c.loop-b.b ≤ (layout_of s).blocks = omega arith in
     filled_more s c.requires.naming c.args.tables.now.sized c.requires.order c.requires.rows c.loop-b.table c.loop-b.b c.loop-b-test.true few c.loop-b.invariant
-    c.of-block.result c.of-block.ensures
+    c.of_block.result c.of_block.ensures

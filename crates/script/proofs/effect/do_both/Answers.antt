@@ -10,8 +10,8 @@ returns c =
     let rows = in_use vars c.args.used in
     let limit = c.args.limit in
     let start = holds-none vars c.args.used c.min.result (search rules) in
-    let one = holds_more limit rows vars vars c.do-effect-between.new.vars c.min.result c.do-effect-between.result c.args.first start
-    c.do-effect-between.ensures.used c.do-effect-between.ensures.rows in
-    let two = holds_more limit (done (min limit (length vars)) rows c.args.first) vars c.do-effect-between.new.vars c.do-effect.new.vars
-    c.do-effect-between.result c.do-effect.result c.args.second one c.do-effect.ensures.used c.do-effect.ensures.rows in
+    let one = holds_more limit rows vars vars c.do_effect-between.new.vars c.min.result c.do_effect-between.result c.args.first start
+    c.do_effect-between.ensures.used c.do_effect-between.ensures.rows in
+    let two = holds_more limit (done (min limit (length vars)) rows c.args.first) vars c.do_effect-between.new.vars c.do_effect.new.vars
+    c.do_effect-between.result c.do_effect.result c.args.second one c.do_effect.ensures.used c.do_effect.ensures.rows in
     record { used = two.used; rows = two.table }

@@ -8,6 +8,6 @@ use Rattle.sheet.proofs.writer.write.Goals as goal
 pub returns-in-Ok : goal.returns-in-Ok
 returns-in-Ok c =
     let x = c.args.sheet in
-    let range : in_range x ≡ true = sym c.if-not-in-range.ensures in
+    let range : in_range x ≡ true = sym c.if-not-in_range.ensures in
     let e : vec_items c.in-Ok.image ≡ written x = c.in-Ok.ensures in
     record { bytes = e; reads = subst (λ v. ReadsAs v x) (sym e) (reads_as x range); check = ap checked e ∙ check_back x range; range = range }

@@ -9,5 +9,5 @@ returns-then-i-self c = search rules
 
 pub returns : goal.returns
 returns c =
-    statement-read c.args.self.now.image.now c.args.i c.args.self.now.layout c.fields-from.result c.row.result
-    c.args.self.now.placed (omega arith) c.fields-from.ensures c.row.ensures
+    statement-read c.args.self.now.image.now c.args.i c.args.self.now.layout c.fields_from.result c.row.result
+    c.args.self.now.placed (omega arith) c.fields_from.ensures c.row.ensures

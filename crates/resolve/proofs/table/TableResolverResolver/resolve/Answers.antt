@@ -4,5 +4,5 @@ use Rattle.resolve.proofs.table.TableResolverResolver.resolve.Goals as goal
 
 pub returns : goal.returns
 returns c =
-    c.answer-at.ensures
-    ∙ first-answers _ _ _ c.first-row.ensures.within c.first-row.ensures.before c.first-row.ensures.found
+    c.answer_at.ensures
+    ∙ first-answers _ _ _ c.first_row.ensures.within c.first_row.ensures.before c.first_row.ensures.found

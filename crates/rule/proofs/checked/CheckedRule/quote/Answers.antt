@@ -19,7 +19,7 @@ returns c =
     let kept = rules s c.args.self.now.lawful in
     record {
       value = ap (λ (x : Summary). x.quote) c.outermost.ensures ∙ sym (quote-summary s kept.naming deepest 0 kept.nesting);
-      named-once = each_named_once s kept;
+      named_once = each_named_once s kept;
       nested = nests_no_deeper s kept;
       present = quoted_if_no_loop s kept;
       bound = at_most_thrice s kept;
