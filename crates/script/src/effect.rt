@@ -1,4 +1,4 @@
-ghost use Rattle.std.specs.Prelude.{◌≡◌, ◌+◌, min, length, if◌then◌else◌, slice_set};
+ghost use Rattle.std.specs.Prelude.{◌≡◌, ◌+◌, min, cond, length, if◌then◌else◌, slice_set};
 ghost use Rattle.host.specs.Meaning.{over};
 ghost use Rattle.rows.specs.Rows.{in_use};
 ghost use Rattle.script.specs.Effects.{back_of, room_for, changed, value_in, table_after, used_after, both_done};

@@ -10,4 +10,4 @@ returns c =
     all_put c.extend_from_slice.result (vec_items c.args.image.now) (vec_items c.put_all.new.image) (vec_items c.put_all-2.new.image)
     (vec_items c.put_all-3.new.image) _
     (flat_map block_bytes x.blocks.now) (flat_map stmt_bytes x.statements.now) (flat_map expr_bytes x.expressions.now) x.text.now
-    c.in-ok-put_all.ensures c.in-ok-put_all-2.ensures c.in-ok-put_all-3.ensures c.extend_from_slice.ensures.items
+    c.in_ok-put_all.ensures c.in_ok-put_all-2.ensures c.in_ok-put_all-3.ensures c.extend_from_slice.ensures.items

@@ -3,5 +3,5 @@ use Rattle.rule.specs.Checked.{Lawful}
 use Rattle.rule.proofs.Verdicts.{empty_lawful}
 use Rattle.rule.proofs.checked.CheckedRule.empty.Goals as goal
 
-pub invariant-of-result : goal.invariant-of-result
-invariant-of-result c = (subst Lawful (sym c.empty-tables.ensures) empty_lawful, tt)
+pub invariant_of-result : goal.invariant_of-result
+invariant_of-result c = record { lawful = subst Lawful (sym c.empty-tables.ensures) empty_lawful }
