@@ -1,5 +1,5 @@
 -- how often a statement can name a block
-use Rattle.std.proofs.Common.{ℕ, ◌+◌, ◌≤◌, Bool, true, false, cond, eqb, Some, None, Option, arith}
+use Rattle.std.proofs.Common.{ℕ, ◌≤◌, Bool, true, false, cond, eqb, Some, None, Option, arith}
 use Rattle.checks.specs.Rules.{names}
 
 one_or_none : (t : Bool) → cond t 1 0 ≤ 1

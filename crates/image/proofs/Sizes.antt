@@ -1,5 +1,5 @@
 -- how large an image's tables are
-use Rattle.std.proofs.Common.{◌≡◌, ℕ, ◌<◌, ◌≤◌, true, List, arith}
+use Rattle.std.proofs.Common.{◌≡◌, ℕ, ◌<◌, ◌≤◌, true, List}
 use Rattle.std.proofs.lemmas.Bool.{and_parts, leb-true}
 use Rattle.image.specs.Layouts.{counted, layout_of}
 

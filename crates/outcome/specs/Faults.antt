@@ -2,7 +2,6 @@
 use Rattle.std.specs.Prelude.{Bool, true, false, ℕ}
 use Rattle.image.specs.declared.rows.Position.{Position}
 use Rattle.rows.specs.declared.place.Place.{Place}
-use Rattle.outcome.specs.declared.Failure.{Failure}
 use Rattle.outcome.specs.declared.Outcome.{Outcome}
 use Rattle.outcome.specs.declared.Outcome.TheVariants.{Value, Stopped, Failed, Exited}
 use Rattle.outcome.specs.declared.SessionRefusal.{SessionRefusal}

@@ -2,7 +2,7 @@
 use Rattle.std.specs.Prelude.{List, ℕ, min, length, take}
 use Rattle.rows.specs.declared.place.Place.{Place}
 use Rattle.rows.specs.declared.variable.Access.{Access}
-use Rattle.rows.specs.declared.variable.Access.TheVariants.{ReadWrite, Constant}
+use Rattle.rows.specs.declared.variable.Access.TheVariants.{ReadWrite}
 use Rattle.rows.specs.declared.import.ImportRow.{ImportRow}
 use Rattle.rows.specs.declared.variable.VarRow.{VarRow}
 use Rattle.rows.specs.Places.{no_place}

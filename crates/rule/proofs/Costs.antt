@@ -1,5 +1,5 @@
 -- what a statement adds to a quote is at most its cost
-use Rattle.std.proofs.Common.{◌≡◌, ℕ, zero, suc, ◌+◌, ◌<◌, ◌≤◌, max, List, Some, None, Option, sym, refl, ap, ◌∙◌, add-one, arith}
+use Rattle.std.proofs.Common.{◌≡◌, ℕ, zero, suc, ◌+◌, ◌<◌, ◌≤◌, List, Some, None, Option, refl, ap, ◌∙◌, add-one, arith}
 use Rattle.image.specs.declared.rows.Stmt.{Stmt}
 use Rattle.image.specs.declared.rows.Stmt.TheVariants.{Noop, Expr, Block, Assignment, Var, If, While, Do, For, BreakLoop, TryCatch, Return, Import}
 use Rattle.image.specs.Bytes.{sum_below}

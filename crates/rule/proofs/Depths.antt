@@ -1,13 +1,13 @@
 -- nesting, breaks and quotes by the tree are those of the summaries
-use Rattle.std.proofs.Common.{◌≡◌, ℕ, zero, suc, ◌+◌, ◌<◌, ◌≤◌, max, Bool, true, false, ◌&&◌, leb, ◌⊎◌, List, Some, None, Option, sym, refl, ap, ◌∙◌, subst, inl, inr, arith}
-use Rattle.std.proofs.lemmas.Bool.{false≢true, and_parts, and_from, and_cases, leb-true, leb-false, le-leb, lt-leb}
+use Rattle.std.proofs.Common.{◌≡◌, ℕ, zero, suc, ◌+◌, ◌<◌, ◌≤◌, max, Bool, true, false, ◌&&◌, leb, List, Some, None, Option, sym, refl, ap, ◌∙◌, inl, inr, arith}
+use Rattle.std.proofs.lemmas.Bool.{false≢true, and_parts, and_cases, leb-true, leb-false, le-leb, lt-leb}
 use Rattle.image.specs.Bytes.{all_below}
 use Rattle.image.specs.Rows.{block, parts}
 use Rattle.image.proofs.Below.{all_at}
 use Rattle.checks.specs.Rules.{named_once}
 use Rattle.rule.specs.declared.summary.Summary.{Summary}
 use Rattle.rule.specs.Tree.{stmt_in, named, within, contained, block_quote, holds_breaks, stmt_quote, plus, plus_below}
-use Rattle.rule.specs.Summaries.{absent, of_stmt, of_row, of_block, joined_below, summary}
+use Rattle.rule.specs.Summaries.{absent, of_row, joined_below, summary}
 use Rattle.rule.proofs.Levels.{fixed}
 
 -- a test that says whether a ≤ c

@@ -1,9 +1,8 @@
 -- a table that is filled from the last block down
-use Rattle.std.proofs.Common.{◌≡◌, ℕ, ◌+◌, ◌-◌, ◌*◌, ◌<◌, ◌≤◌, true, List, length, get_or, set, replicate, sym, ap, ◌∙◌, inl, inr, arith}
+use Rattle.std.proofs.Common.{◌≡◌, ℕ, ◌-◌, ◌<◌, ◌≤◌, true, List, length, set, replicate, sym, ap, ◌∙◌, inl, inr, arith}
 use Rattle.std.proofs.lemmas.Bool.{cases_eq, cases_lt}
 use Rattle.std.proofs.lemmas.List.{get_or-set_same, get_or-set_other, get_or-replicate, get_or_past, length-replicate, length-set}
 use Rattle.image.specs.Layouts.{layout_of, counted}
-use Rattle.image.specs.Rows.{block}
 use Rattle.image.proofs.Sizes.{few-blocks, few-statements}
 use Rattle.checks.specs.Rules.{in_order, all_sound, named_once}
 use Rattle.rule.specs.declared.summary.Summary.{Summary}

@@ -1,10 +1,10 @@
 -- the summary of a block is made of the summaries of the blocks that it names
-use Rattle.std.proofs.Common.{◌≡◌, ℕ, zero, suc, ◌+◌, ◌<◌, ◌≤◌, true, ◌&&◌, ltb, List, Some, None, Option, sym, refl, ap, ◌∙◌, inl, inr, arith}
+use Rattle.std.proofs.Common.{◌≡◌, ℕ, zero, suc, ◌+◌, ◌<◌, ◌≤◌, true, ltb, List, Some, None, Option, sym, refl, ap, ◌∙◌, inl, inr, arith}
 use Rattle.std.proofs.lemmas.Bool.{and_parts, cases_lt, cond-false, le-ltb, ltb-true}
 use Rattle.image.specs.declared.rows.Block.{Block}
 use Rattle.image.specs.Bytes.{all_below, sum_below}
 use Rattle.image.specs.Layouts.{layout_of}
-use Rattle.image.specs.Rows.{block, block_from, stmt, parts}
+use Rattle.image.specs.Rows.{block, block_from, parts}
 use Rattle.image.proofs.Below.{all_at}
 use Rattle.checks.specs.Rules.{above, names_above, block_above, once_each, named_once}
 use Rattle.rule.specs.declared.summary.Summary.{Summary}

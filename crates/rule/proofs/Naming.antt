@@ -1,14 +1,13 @@
 -- each block is named exactly once, and by a lower one
-use Rattle.std.proofs.Common.{◌≡◌, ℕ, zero, suc, ◌+◌, ◌-◌, ◌<◌, ◌≤◌, Bool, true, false, cond, eqb, ◌⊎◌, List, Some, None, Option, sym, refl, ap, ◌∙◌, subst, inl, inr, arith}
+use Rattle.std.proofs.Common.{◌≡◌, ℕ, zero, suc, ◌+◌, ◌-◌, ◌<◌, true, cond, eqb, List, Some, None, Option, sym, refl, ap, ◌∙◌, subst, inl, inr, arith}
 use Rattle.std.proofs.lemmas.Bool.{and_parts, cases_eq, cases_Bool, eqb-true, eq-eqb, ltb-true, cond-true}
 use Rattle.image.specs.Bytes.{sum_below}
 use Rattle.image.specs.Layouts.{layout_of}
 use Rattle.image.specs.Rows.{block, stmt, parts}
-use Rattle.image.specs.declared.rows.Parts.{Parts}
 use Rattle.image.proofs.Below.{all_at}
-use Rattle.checks.specs.Rules.{above, names_above, names, hits, namings}
+use Rattle.checks.specs.Rules.{above, names_above, names, hits}
 use Rattle.rule.specs.Tree.{stmt_in}
-use Rattle.rule.specs.Laws.{Place, body, branch, refers_to, StandsIn, NamedByOne, EachNamedOnce}
+use Rattle.rule.specs.Laws.{Place, body, branch, refers_to, StandsIn, EachNamedOnce}
 use Rattle.rule.proofs.Levels.{above_each}
 use Rattle.rule.proofs.Rooms.{once}
 use Rattle.rule.proofs.Sums.{part}

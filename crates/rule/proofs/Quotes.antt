@@ -1,23 +1,20 @@
 -- which rules have a quote, and how large it is
-use Rattle.std.proofs.Common.{◌≡◌, ℕ, zero, suc, ◌+◌, ◌-◌, ◌*◌, ◌<◌, ◌≤◌, Bool, true, false, not, ◌&&◌, ltb, ◌⊎◌, List, is_some, Some, None, Option, sym, refl, ap, ◌∙◌, subst, inl, inr, arith}
-use Rattle.std.proofs.lemmas.Bool.{false≢true, true≢false, and_parts, and_cases, cases_Bool, cases_lt, cases_eq, cond-false, le-ltb, not-true, not-false}
+use Rattle.std.proofs.Common.{◌≡◌, ℕ, zero, suc, ◌+◌, ◌-◌, ◌<◌, ◌≤◌, Bool, true, false, not, ltb, List, is_some, Some, None, Option, sym, refl, ap, ◌∙◌, subst, inl, inr, arith}
+use Rattle.std.proofs.lemmas.Bool.{false≢true, true≢false, and_cases, cases_lt, cases_eq, cond-false, le-ltb, not-true, not-false}
 use Rattle.image.specs.Bytes.{all_below, sum_below}
 use Rattle.image.specs.Layouts.{layout_of}
 use Rattle.image.specs.Rows.{block, stmt_at, stmt, done, stmt_from, fields_from, parts}
 use Rattle.image.specs.declared.rows.Stmt.{Stmt}
 use Rattle.image.specs.declared.rows.Stmt.TheVariants.{Noop, Expr, Block, Assignment, Var, If, While, Do, For, BreakLoop, TryCatch, Return, Import}
-use Rattle.image.specs.declared.rows.StmtRow.{StmtRow}
 use Rattle.image.proofs.Below.{all_at}
 use Rattle.image.proofs.Sizes.{some_block}
-use Rattle.checks.specs.Rules.{before}
 use Rattle.rule.specs.declared.summary.Summary.{Summary}
-use Rattle.rule.specs.Checked.{quote}
 use Rattle.rule.specs.Laws.{Place, body, branch, refers_to, StandsIn, is_loop, QuotedIfNoLoop, AtMostThrice}
 use Rattle.rule.specs.Summaries.{absent, of_row, looked, summary, value}
 use Rattle.rule.specs.Tree.{deepest, stmt_in, named, plus, larger, stmt_quote, plus_below}
 use Rattle.rule.proofs.Depths.{quote-summary, joined-quote}
 use Rattle.rule.proofs.Levels.{fixed}
-use Rattle.rule.proofs.Naming.{each_named_once, lower}
+use Rattle.rule.proofs.Naming.{each_named_once}
 use Rattle.rule.proofs.Rooms.{begins, statements_in, costs, worth-cost}
 use Rattle.rule.proofs.Verdicts.{Rules}
 

@@ -1,19 +1,19 @@
 -- in a rule whose blocks are named once, what the statements of a block add is at most three for each statement of the rule
-use Rattle.std.proofs.Common.{◌≡◌, ℕ, zero, suc, ◌+◌, ◌-◌, ◌*◌, ◌<◌, ◌≤◌, Bool, true, false, cond, ◌&&◌, ◌||◌, eqb, ltb, ◌⊎◌, List, is_some, Some, None, Option, sym, refl, ap, ◌∙◌, subst, inl, inr, add-mul, one-mul, zero-mul, arith}
-use Rattle.std.proofs.lemmas.Bool.{and_parts, or_cases, cases_eq, eqb-true, eqb-false, eq-eqb, ltb-true, lt-ltb, cond-true}
+use Rattle.std.proofs.Common.{◌≡◌, ℕ, zero, suc, ◌+◌, ◌-◌, ◌*◌, ◌<◌, ◌≤◌, true, ◌||◌, eqb, List, Some, None, Option, sym, refl, ap, ◌∙◌, subst, inl, inr, add-mul, one-mul, arith}
+use Rattle.std.proofs.lemmas.Bool.{and_parts, or_cases, cases_eq, eqb-true, eq-eqb, ltb-true, lt-ltb, cond-true}
 use Rattle.image.specs.declared.rows.Parts.{Parts}
 use Rattle.image.specs.declared.rows.StmtRow.{StmtRow}
 use Rattle.image.specs.Bytes.{all_below, sum_below}
 use Rattle.image.specs.Layouts.{layout_of}
-use Rattle.image.specs.Rows.{block, stmt_at, stmt, done, expr_at, parts}
+use Rattle.image.specs.Rows.{block, stmt_at, stmt, done, parts}
 use Rattle.image.proofs.Below.{all_at, sum_more}
-use Rattle.checks.specs.Rules.{before, in_order, refers, lies, fits, sound_row, sound, all_sound, above, names_above, block_above, names, hits, namings, once_each, named_once}
+use Rattle.checks.specs.Rules.{before, in_order, refers, fits, sound_row, sound, all_sound, above, names_above, block_above, names, hits, namings, once_each, named_once}
 use Rattle.rule.specs.declared.summary.Summary.{Summary}
 use Rattle.rule.specs.Tree.{stmt_in, named}
 use Rattle.rule.specs.Summaries.{absent, of_row, summary, cost, value}
 use Rattle.rule.proofs.Costs.{row-cost, joined-cost}
 use Rattle.rule.proofs.Levels.{above_each, fixed}
-use Rattle.rule.proofs.Sums.{sum_from, sum_same, under, split, leads, constant, weight, bounded}
+use Rattle.rule.proofs.Sums.{sum_from, under, leads, constant, weight, bounded}
 
 -- the one number that is named
 pick : (q : ℕ → ℕ) (m c n : ℕ) → c ≤ m → m < c + n → q m ≤ sum_below (λ i. names (Some m) (c + i) * q (c + i)) n

@@ -1,5 +1,5 @@
 -- sums over the numbers from a on, and the sum over rows that are named at most once
-use Rattle.std.proofs.Common.{◌≡◌, ℕ, zero, suc, ◌+◌, ◌*◌, ◌<◌, ◌≤◌, sym, refl, ap, ◌∙◌, subst, inl, inr, add-zero, add_assoc, add-suc, add-mul, one-mul, zero-add, zero-mul, add-one, arith}
+use Rattle.std.proofs.Common.{◌≡◌, ℕ, zero, suc, ◌+◌, ◌*◌, ◌<◌, ◌≤◌, sym, refl, ap, inl, inr, add-zero, add_assoc, add-suc, add-mul, one-mul, zero-mul, add-one, arith}
 use Rattle.std.proofs.lemmas.Bool.{cases_eq}
 use Rattle.image.specs.Bytes.{sum_below}
 use Rattle.image.proofs.Below.{sum_more}

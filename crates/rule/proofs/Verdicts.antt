@@ -1,15 +1,14 @@
 -- the answer of the check from the summary of block 0, and what a lawful image keeps
-use Rattle.std.proofs.Common.{◌≡◌, ℕ, ◌<◌, ◌≤◌, Bool, true, false, cond, leb, List, is_ok, Ok, Err, Option, Result, sym, refl, ap, ◌∙◌, arith}
-use Rattle.std.proofs.lemmas.Bool.{false≢true, cond-true, cond-false, le-leb, lt-leb}
+use Rattle.std.proofs.Common.{◌≡◌, ℕ, Bool, true, false, cond, List, is_ok, Ok, Err, Option, Result, sym, refl, ap, ◌∙◌, arith}
+use Rattle.std.proofs.lemmas.Bool.{false≢true, cond-true}
 use Rattle.image.specs.Layouts.{headed, counted, empty_image}
-use Rattle.image.specs.Rows.{block, stmt_at, stmt, expr_at}
+use Rattle.image.specs.Rows.{block, stmt_at, expr_at}
 use Rattle.image.specs.declared.layout.Layout.{Layout}
 use Rattle.image.specs.declared.refusal.Refusal.{Refusal}
 use Rattle.image.specs.declared.refusal.Refusal.TheVariants.{Header, Counts, Blocks, Rows, Naming, Nesting, StrayBreak}
 use Rattle.checks.specs.Rules.{in_order, all_sound, named_once}
-use Rattle.rule.specs.declared.summary.Summary.{Summary}
 use Rattle.rule.specs.Tree.{deepest, within, contained, block_quote}
-use Rattle.rule.specs.Checked.{quote, unless, examined, checked, Lawful}
+use Rattle.rule.specs.Checked.{quote, unless, examined, Lawful}
 use Rattle.rule.specs.Summaries.{summary, settled}
 use Rattle.rule.proofs.Depths.{within_height, contained-summary, quote-summary}
 

@@ -1,5 +1,5 @@
 -- what holds of every checked rule, in words of its blocks and statements
-use Rattle.std.specs.Prelude.{◌≡◌, ℕ, suc, ◌+◌, ◌*◌, ◌<◌, ◌≤◌, Bool, true, false, not, List, is_some, Some, None, Option}
+use Rattle.std.specs.Prelude.{◌≡◌, ℕ, suc, ◌+◌, ◌*◌, ◌<◌, ◌≤◌, Bool, true, false, not, List, is_some, Some, Option}
 use Rattle.image.specs.Bytes.{all_below}
 use Rattle.image.specs.Layouts.{layout_of}
 use Rattle.image.specs.Rows.{block, stmt, parts}

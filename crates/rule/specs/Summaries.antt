@@ -1,11 +1,11 @@
 -- the table by which a program finds nesting, stray breaks and quotes of all blocks at once
-use Rattle.std.specs.Prelude.{ℕ, zero, suc, ◌+◌, ◌<◌, ◌≤◌, max, Bool, true, ◌&&◌, List, Some, None, Ok, Option, Result, nat_le, slice_index_or}
+use Rattle.std.specs.Prelude.{ℕ, zero, suc, ◌+◌, ◌<◌, ◌≤◌, max, true, ◌&&◌, List, Some, None, Ok, Option, Result, nat_le, slice_index_or}
 use Rattle.image.specs.declared.refusal.Refusal.{Refusal}
 use Rattle.image.specs.declared.refusal.Refusal.TheVariants.{Nesting, StrayBreak}
 use Rattle.image.specs.declared.rows.Stmt.{Stmt}
 use Rattle.image.specs.Bytes.{sum_below}
 use Rattle.image.specs.Layouts.{layout_of}
-use Rattle.image.specs.Rows.{block, stmt, parts}
+use Rattle.image.specs.Rows.{block, parts}
 use Rattle.rule.specs.declared.summary.Summary.{Summary}
 use Rattle.rule.specs.Checked.{unless}
 use Rattle.rule.specs.Tree.{deepest, stmt_in, named, holds_breaks, stmt_quote, plus}

@@ -1,5 +1,5 @@
 -- a run stopped for operations counted one more than its limit, any other at most its limit
-use Rattle.std.proofs.Common.{◌≡◌, ℕ, suc, ◌<◌, ◌≤◌, Bool, true, false, ltb, List, [], ◌∷◌, sym, refl, ap, ◌∙◌, arith}
+use Rattle.std.proofs.Common.{◌≡◌, ℕ, suc, ◌≤◌, Bool, true, false, ltb, List, [], ◌∷◌, refl, ◌∙◌, arith}
 use Rattle.rows.specs.declared.place.Place.{Place}
 use Rattle.rows.specs.declared.variable.VarRow.{VarRow}
 use Rattle.host.specs.Meaning.{HostMeaning}

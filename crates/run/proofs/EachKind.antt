@@ -1,7 +1,5 @@
 -- the one walk over the kinds of statements: their loops are lively, and they count no more than their quotes
-use Rattle.std.proofs.Common.{◌≡◌, ℕ, zero, suc, ◌+◌, ◌<◌, ◌≤◌, max, Bool, true, false, cond, not, T, eqb, List, [], ◌∷◌, Some, None, Option, sym, refl, ap, ◌∙◌, subst, add-zero, add-suc, arith}
-use Rattle.std.proofs.lemmas.Bool.{eqb-true, eq-eqb}
-use Rattle.image.specs.declared.rows.Expr.{Expr as ExprRow}
+use Rattle.std.proofs.Common.{◌≡◌, ℕ, zero, suc, ◌+◌, ◌<◌, ◌≤◌, Bool, true, false, cond, not, eqb, List, [], ◌∷◌, Some, None, Option, sym, refl, ap, ◌∙◌, subst, add-zero, arith}
 use Rattle.image.specs.declared.rows.ExprKind.{ExprKind}
 use Rattle.image.specs.declared.rows.ExprKind.TheVariants.{Host as HostCode, Unit as UnitExpr, False, True}
 use Rattle.image.specs.declared.rows.Name.{Name}
@@ -9,8 +7,8 @@ use Rattle.image.specs.declared.rows.Position.{Position}
 use Rattle.image.specs.declared.rows.Stmt.{Stmt}
 use Rattle.image.specs.declared.rows.Stmt.TheVariants.{Noop, Expr, Block, Assignment, Var, If, While, Do, For, BreakLoop, TryCatch, Return, Import}
 use Rattle.image.specs.declared.rows.StmtRow.{StmtRow}
-use Rattle.image.specs.Rows.{block, stmt_at, stmt, done as doing, parts}
-use Rattle.rule.specs.Tree.{deepest, stmt_in, named, plus, larger, stmt_quote, plus_below, block_quote, expr_charges}
+use Rattle.image.specs.Rows.{block, stmt_at, done as doing, parts}
+use Rattle.rule.specs.Tree.{deepest, named, plus, larger, stmt_quote, plus_below, block_quote, expr_charges}
 use Rattle.rows.specs.declared.place.Place.{Place}
 use Rattle.rows.specs.declared.variable.Access.{Access}
 use Rattle.rows.specs.declared.variable.Access.TheVariants.{ReadWrite, Constant}
@@ -27,14 +25,13 @@ use Rattle.host.specs.Meaning.{HostMeaning}
 use Rattle.resolve.specs.declared.resolver.Resolved.{Resolved}
 use Rattle.resolve.specs.declared.resolver.Resolved.TheVariants as resolved
 use Rattle.outcome.specs.declared.Failure.{Failure}
-use Rattle.outcome.specs.declared.RunFault.{RunFault}
 use Rattle.outcome.specs.Faults.{catchable}
-use Rattle.run.specs.Acts.{catching, Out, value, failed, broke, again, returned, exited, Found, found, missing, beyond, Act, find, store, load, Reply, Turn, over, sets, Tree, done, charge, act, seq, inner, binding, rounds, items}
-use Rattle.run.specs.Walk.{Event, End, stopped, ended, Setting, State, Done, noting, charged, perform, enter, ends_with, go_on, push_all, pay, walk}
+use Rattle.run.specs.Acts.{catching, Out, value, failed, broke, again, returned, exited, Found, found, missing, beyond, Act, find, store, load, Reply, Turn, Tree, done, charge, act, seq, inner, binding, rounds, items}
+use Rattle.run.specs.Walk.{Event, End, stopped, ended, Setting, State, charged, perform, enter, go_on, push_all, pay, walk}
 use Rattle.run.specs.Statements
 use Rattle.run.specs.Statements.{Doing, give, ends, pays, does, pass, sub, outcome, alone, ◌>>=◌, ◌>>◌, expr_of, worth, evaluate, optional, condition, combined, iterable, for_names, for_turn, turned, run, body, while_round, do_round, caught_end, handler, handled, tried, declared, begun, exec, in_order, block_stmts, empty_at, levels, whole, row_or, always}
 use Rattle.run.proofs.Counts.{act_free, push_all_free}
-use Rattle.run.proofs.Rounds.{onward, goes_on, First, Ends, rises, first-rises, Lively, first_lively, Proper}
+use Rattle.run.proofs.Rounds.{First, Ends, first-rises, Lively, first_lively, Proper}
 
 plus_assoc : (a b c : Option ℕ) → plus a (plus b c) ≡ plus (plus a b) c
 plus_assoc None b c = refl

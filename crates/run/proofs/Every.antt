@@ -6,7 +6,7 @@ use Rattle.rows.specs.declared.variable.VarRow.{VarRow}
 use Rattle.host.specs.Meaning.{HostMeaning}
 use Rattle.run.specs.Acts.{Out, value, failed, broke, again, returned, exited, By, looping, catching, Act, Turn, over, sets, Tree, done, charge, act, seq, inner, binding, rounds, items}
 use Rattle.run.specs.Says.{cut, lasting}
-use Rattle.run.specs.Walk.{Frame, Event, added, block, End, stopped, ended, Setting, State, Done, frame, noting, charged, perform, cut_names, enter, leave, ends_with, go_on, after_round, turns, push_all, set_all, leaving, dropping, owning, pay, paid, bodied, turned, walk}
+use Rattle.run.specs.Walk.{Event, block, End, stopped, ended, Setting, State, Done, frame, charged, perform, cut_names, enter, leave, ends_with, go_on, after_round, turns, push_all, set_all, pay, bodied, turned, walk}
 
 module _ {S V : Type 0} (m : HostMeaning S V) (w : Setting) (limit many : ℕ) where
   -- a relation between a state, whether the run stopped for operations, the state then, and what was noted between them;

@@ -1,11 +1,11 @@
 -- a larger limit of operations changes nothing until the smaller one stops a run
-use Rattle.std.proofs.Common.{◌≡◌, ℕ, zero, suc, ◌<◌, ◌≤◌, Bool, true, false, ltb, ◌⊎◌, List, [], ◌∷◌, sym, refl, ap, ◌∙◌, inl, inr, arith}
+use Rattle.std.proofs.Common.{◌≡◌, ℕ, zero, suc, ◌≤◌, Bool, true, false, ltb, ◌⊎◌, List, [], ◌∷◌, refl, ap, ◌∙◌, inl, inr, arith}
 use Rattle.std.proofs.lemmas.Bool.{ltb-true, lt-ltb}
 use Rattle.image.specs.declared.rows.Position.{Position}
 use Rattle.rows.specs.declared.variable.VarRow.{VarRow}
 use Rattle.host.specs.Meaning.{HostMeaning}
-use Rattle.run.specs.Acts.{Out, value, failed, broke, again, returned, exited, By, looping, catching, Act, Turn, over, sets, Tree, done, charge, act, seq, inner, binding, rounds, items}
-use Rattle.run.specs.Walk.{Event, End, stopped, ended, Setting, State, Done, noting, charged, perform, enter, ends_with, go_on, after_round, turns, push_all, set_all, leaving, dropping, owning, pay, paid, bodied, turned, walk}
+use Rattle.run.specs.Acts.{Out, value, failed, broke, again, returned, exited, By, looping, catching, Turn, over, sets, Tree, done, charge, act, seq, inner, binding, rounds, items}
+use Rattle.run.specs.Walk.{Event, End, stopped, ended, Setting, State, Done, noting, charged, perform, enter, go_on, after_round, turns, push_all, set_all, leaving, dropping, owning, pay, paid, bodied, turned, walk}
 use Rattle.run.specs.Says.{cut}
 
 module _ {S V : Type 0} (m : HostMeaning S V) (w : Setting) (low high many : ℕ) (le : low ≤ high) where

@@ -1,5 +1,5 @@
 -- names are those before, then those that a let or the host appended at the level; inner blocks end as they began
-use Rattle.std.proofs.Common.{◌≡◌, ℕ, zero, suc, ◌+◌, ◌<◌, ◌≤◌, min, max, Bool, true, false, cond, ltb, List, [], ◌∷◌, ◌++◌, map, length, get_or, take, drop, set, sym, refl, ap, ◌∙◌, subst, arith, take-append-drop}
+use Rattle.std.proofs.Common.{◌≡◌, ℕ, suc, ◌+◌, ◌<◌, ◌≤◌, Bool, true, false, cond, ltb, List, [], ◌∷◌, ◌++◌, map, length, get_or, take, drop, set, sym, refl, ap, ◌∙◌, subst, arith, take-append-drop}
 use Rattle.std.proofs.lemmas.List.{append-nil, append_assoc, length-append, length-map, length-set, length-take-le, map-append, take-map, take-take, take_at, take-set}
 use Rattle.std.proofs.lemmas.Bool.{ltb-true}
 use Rattle.rows.specs.declared.import.ImportRow.{ImportRow}
@@ -7,11 +7,10 @@ use Rattle.rows.specs.declared.place.Place.{Place}
 use Rattle.rows.specs.declared.variable.VarRow.{VarRow}
 use Rattle.rows.specs.declared.variable.Access.TheVariants.{ReadWrite}
 use Rattle.rows.specs.Rows.{in_use, revalued, redeclared, blank_variable, import, blank_import}
-use Rattle.names.specs.Lists.{appended as appended_rows}
-use Rattle.host.specs.Meaning.{HostMeaning, HostLaws, Grown, Step, place_of, over}
+use Rattle.host.specs.Meaning.{HostMeaning, HostLaws, Grown, Step, place_of}
 use Rattle.run.specs.Acts.{By, letting, evaluating, allowing, Act, ask, permit, room, declare, find, store, redeclare, another, load, Tree}
-use Rattle.run.specs.Says.{cut, lasting, appended_at, BlocksKeep}
-use Rattle.run.specs.Walk.{Frame, Event, added, block, Setting, State, Done, frame, charged, perform, hosted, sees, most, changed, pushed, push, push_all, set_all, cut_names, enter, leave, loaded, walk}
+use Rattle.run.specs.Says.{lasting, appended_at, BlocksKeep}
+use Rattle.run.specs.Walk.{Frame, Event, block, Setting, State, frame, charged, perform, hosted, sees, most, changed, pushed, push, push_all, set_all, cut_names, enter, leave, loaded, walk}
 use Rattle.run.proofs.Every.{Kept, every}
 use Rattle.run.proofs.Logs.{Deep, deep_join, deep-less, appended_join, appended_deeper, blocks_join, called-deep, called-blocks, called-appended, not_lasting}
 use Rattle.run.proofs.Rows.{in_use_lem, cut-length, cut-used, cut-rows, one_more, over-length, over-used, same-part}

@@ -1,11 +1,11 @@
 -- rounds that go on have charged, so that it does not show for how many rounds a loop is looked at
-use Rattle.std.proofs.Common.{◌≡◌, ℕ, zero, suc, ◌+◌, ◌<◌, ◌≤◌, Bool, true, false, T, ltb, List, [], ◌∷◌, ◌++◌, sym, refl, ap, ◌∙◌, arith}
+use Rattle.std.proofs.Common.{◌≡◌, ℕ, zero, suc, ◌+◌, ◌<◌, ◌≤◌, Bool, true, false, T, ltb, List, [], ◌∷◌, refl, ap, ◌∙◌, arith}
 use Rattle.image.specs.declared.rows.Position.{Position}
 use Rattle.rows.specs.declared.variable.VarRow.{VarRow}
 use Rattle.host.specs.Meaning.{HostMeaning}
-use Rattle.run.specs.Acts.{Out, value, failed, broke, again, returned, exited, By, looping, catching, Act, Reply, Turn, over, sets, Tree, done, charge, act, seq, inner, binding, rounds, items}
+use Rattle.run.specs.Acts.{Out, value, failed, broke, again, returned, exited, By, looping, catching, Reply, Turn, over, sets, Tree, done, charge, act, seq, inner, binding, rounds, items}
 use Rattle.run.specs.Says.{cut, After}
-use Rattle.run.specs.Walk.{Event, End, stopped, ended, Setting, State, Done, noting, charged, perform, enter, ends_with, go_on, after_round, turns, push_all, set_all, leaving, dropping, owning, pay, paid, bodied, turned, walk}
+use Rattle.run.specs.Walk.{Event, End, stopped, ended, Setting, State, Done, noting, charged, perform, enter, go_on, after_round, turns, push_all, set_all, leaving, dropping, owning, pay, bodied, turned, walk}
 use Rattle.run.proofs.Counts.{act_free, push_all_free, set_all_free, counted}
 use Rattle.std.proofs.lemmas.Bool.{ltb-true}
 use Rattle.run.proofs.Every.{Kept, every}

@@ -1,36 +1,32 @@
 -- what a session promises
-use Rattle.std.proofs.Common.{◌≡◌, ℕ, zero, suc, ◌+◌, ◌<◌, ◌≤◌, min, Bool, true, false, cond, ◌||◌, eqb, ltb, leb, ◌⊎◌, List, [], ◌∷◌, ◌++◌, map, length, get_or, take, drop, set, replicate, Some, None, Ok, Err, Option, Result, sym, refl, ap, ◌∙◌, subst, inl, inr, arith}
-use Rattle.std.proofs.lemmas.List.{length-take, length-take-le, length-set, take-take, take-append-le, length-append, take-set-le}
-use Rattle.std.proofs.lemmas.Bool.{or_parts, ltb-false, leb-false, cases_Bool}
+use Rattle.std.proofs.Common.{◌≡◌, ℕ, ◌+◌, ◌≤◌, Bool, true, false, eqb, leb, ◌⊎◌, List, [], ◌∷◌, ◌++◌, map, length, take, drop, Some, None, Ok, Option, Result, sym, refl, ap, ◌∙◌, subst, inl, inr, arith}
+use Rattle.std.proofs.lemmas.List.{length-take, take-take, take-append-le, length-append}
+use Rattle.std.proofs.lemmas.Bool.{or_parts, ltb-false, leb-false}
 use Rattle.image.specs.Layouts.{headed, counted as sized}
 use Rattle.image.specs.declared.refusal.Refusal.{Refusal}
 use Rattle.image.specs.declared.refusal.Refusal.TheVariants.{Header, Counts, Blocks, Rows as BadRows, Naming, Nesting, StrayBreak}
 use Rattle.checks.specs.Rules.{in_order, all_sound, named_once}
-use Rattle.rule.specs.Checked.{Lawful, checked, quote, unless}
+use Rattle.rule.specs.Checked.{checked, quote, unless}
 use Rattle.rule.specs.Tree.{deepest, within, contained, block_quote}
-use Rattle.rows.specs.declared.import.ImportRow.{ImportRow}
-use Rattle.rows.specs.declared.place.Place.{Place}
-use Rattle.rows.specs.declared.variable.VarRow.{VarRow}
-use Rattle.rows.specs.Rows.{in_use, blank_variable}
-use Rattle.names.specs.Lists.{rewound, shortened}
+use Rattle.rows.specs.Rows.{in_use}
+use Rattle.names.specs.Lists.{shortened}
 use Rattle.host.specs.Meaning.{HostMeaning, HostLaws, place_of}
 use Rattle.resolve.specs.declared.resolver.Resolved.{Resolved}
-use Rattle.outcome.specs.declared.Failure.{Failure}
 use Rattle.outcome.specs.declared.RunFault.{RunFault}
 use Rattle.outcome.specs.declared.RunFault.TheVariants.{NotAllowed, TooManyNames, WrongKind, NotIterable, NoSuchName, NoSuchIndex, ConstantTarget, NoOperator, TooManyModules, NoModule, Resolver, Thrown, Host}
 use Rattle.outcome.specs.declared.SessionRefusal.{SessionRefusal}
 use Rattle.outcome.specs.declared.SessionRefusal.TheVariants.{Rows, Name, Full}
 use Rattle.outcome.specs.Faults.{number}
-use Rattle.run.specs.Acts.{Out, value, failed, broke, again, returned, exited}
-use Rattle.run.specs.Promise.{names_of, stopped_run, stops, Within, Ran, Holds, Each, Agree, Promise}
+use Rattle.run.specs.Acts.{value, failed, broke, again, returned, exited}
+use Rattle.run.specs.Promise.{stopped_run, stops, Within, Holds, Each, Agree, Promise}
 use Rattle.run.specs.Says.{cut, After, appended_at}
-use Rattle.run.specs.Session.{many_rounds, Lent, Call, put, read, rewind, run, Answer, refused, made, got, ran, count_of, Terms, limited, outcome_of, World, Entry, short, nameless, setting, start, runs, refusing, last_value, site_name, putting, rewinding, call, calls, opened, ended', same}
+use Rattle.run.specs.Session.{many_rounds, Lent, Call, put, read, rewind, run, got, count_of, Terms, outcome_of, World, Entry, short, nameless, setting, start, runs, refusing, last_value, site_name, putting, rewinding, call, calls, opened, ended', same}
 use Rattle.run.specs.Statements.{whole}
-use Rattle.run.specs.Walk.{Event, End, stopped, ended, Setting, State, Done, walk}
+use Rattle.run.specs.Walk.{End, stopped, ended, State, Done, walk}
 use Rattle.run.proofs.Counts.{counted}
-use Rattle.run.proofs.EachKind.{Good, Bound, good_whole}
+use Rattle.run.proofs.EachKind.{Bound, good_whole}
 use Rattle.run.proofs.Limits.{Same, limits}
-use Rattle.run.proofs.Names.{Fit, Keeps, keeps, places}
+use Rattle.run.proofs.Names.{Fit, keeps}
 use Rattle.run.proofs.Rows.{in_use_lem, cut-used}
 
 not_twelve : {V : Type 0} (f : RunFault V) → eqb (number f) 12 ≡ false

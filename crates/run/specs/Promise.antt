@@ -5,7 +5,7 @@ use Rattle.rows.specs.declared.import.ImportRow.{ImportRow}
 use Rattle.rows.specs.declared.place.Place.{Place}
 use Rattle.rows.specs.declared.variable.VarRow.{VarRow}
 use Rattle.rows.specs.Rows.{in_use}
-use Rattle.host.specs.Meaning.{HostMeaning, HostLaws, place_of}
+use Rattle.host.specs.Meaning.{HostMeaning, place_of}
 use Rattle.resolve.specs.declared.resolver.Resolved.{Resolved}
 use Rattle.outcome.specs.declared.Outcome.{Outcome}
 use Rattle.outcome.specs.Faults.{outcome_number}

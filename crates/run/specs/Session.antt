@@ -1,13 +1,12 @@
 -- a session: its calls, good and bad, and what each leaves
-use Rattle.std.specs.Prelude.{ℕ, ◌+◌, min, Bool, true, false, cond, ◌&&◌, ◌||◌, List, [], ◌∷◌, ◌++◌, length, take, drop, replicate, Some, None, Option, ◌==◌, nat_le, nat_lt, slice_index_or, slice_set}
-use Rattle.image.specs.declared.rows.Position.{Position}
+use Rattle.std.specs.Prelude.{ℕ, ◌+◌, Bool, true, false, cond, ◌&&◌, ◌||◌, List, [], ◌∷◌, ◌++◌, length, take, drop, replicate, Some, None, Option, ◌==◌, nat_le, nat_lt, slice_index_or, slice_set}
 use Rattle.image.specs.Rows.{text_of as rule_text}
 use Rattle.rows.specs.declared.import.ImportRow.{ImportRow}
 use Rattle.rows.specs.declared.place.Place.{Place}
 use Rattle.rows.specs.declared.place.Source.TheVariants.{Site}
 use Rattle.rows.specs.declared.variable.Access.TheVariants.{ReadWrite}
 use Rattle.rows.specs.declared.variable.VarRow.{VarRow}
-use Rattle.rows.specs.Places.{text_of, part_of}
+use Rattle.rows.specs.Places.{text_of}
 use Rattle.rows.specs.Rows.{in_use, variable, blank_variable, blank_import}
 use Rattle.names.specs.Lists.{last_named, name_in, rewound, shortened}
 use Rattle.host.specs.Meaning.{HostMeaning, place_of}
@@ -16,7 +15,7 @@ use Rattle.outcome.specs.declared.Outcome.{Outcome}
 use Rattle.outcome.specs.declared.Outcome.TheVariants as outcome
 use Rattle.outcome.specs.declared.SessionRefusal.{SessionRefusal}
 use Rattle.outcome.specs.declared.SessionRefusal.TheVariants.{Limits, Rows, Name, Full}
-use Rattle.run.specs.Acts.{Out, value, failed, broke, again, returned, exited}
+use Rattle.run.specs.Acts.{value, failed, broke, again, returned, exited}
 use Rattle.run.specs.Statements.{whole}
 use Rattle.run.specs.Walk.{Event, End, stopped, ended, Setting, State, Done, walk}
 

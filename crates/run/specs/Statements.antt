@@ -1,5 +1,5 @@
 -- what each statement does: the order of its acts
-use Rattle.std.specs.Prelude.{ℕ, zero, suc, ◌+◌, Bool, true, false, cond, not, ◌&&◌, List, [], ◌∷◌, Some, None, Option, ◌==◌}
+use Rattle.std.specs.Prelude.{ℕ, zero, suc, Bool, true, false, cond, not, ◌&&◌, List, [], ◌∷◌, Some, None, Option, ◌==◌}
 use Rattle.image.specs.declared.rows.Expr.{Expr as ExprRow}
 use Rattle.image.specs.declared.rows.ExprKind.{ExprKind}
 use Rattle.image.specs.declared.rows.ExprKind.TheVariants.{Host as HostCode, Unit as UnitExpr, False, True}
@@ -25,7 +25,6 @@ use Rattle.host.specs.declared.answers.Caught.{Caught}
 use Rattle.host.specs.declared.answers.Caught.TheVariants as caught
 use Rattle.host.specs.declared.answers.Evaluated.{Evaluated}
 use Rattle.host.specs.declared.answers.Evaluated.TheVariants as evaluated
-use Rattle.host.specs.declared.answers.Fault.{Fault}
 use Rattle.host.specs.declared.answers.Item.{Item}
 use Rattle.host.specs.declared.answers.Item.TheVariants as item
 use Rattle.host.specs.Meaning.{HostMeaning}

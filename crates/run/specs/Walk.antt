@@ -3,15 +3,12 @@ use Rattle.std.specs.Prelude.{ℕ, zero, suc, ◌+◌, ◌-◌, min, Bool, true,
 use Rattle.image.specs.declared.rows.Position.{Position}
 use Rattle.rows.specs.declared.import.ImportRow.{ImportRow}
 use Rattle.rows.specs.declared.place.Place.{Place}
-use Rattle.rows.specs.declared.variable.Access.{Access}
 use Rattle.rows.specs.declared.variable.Access.TheVariants.{ReadWrite}
 use Rattle.rows.specs.declared.variable.VarRow.{VarRow}
 use Rattle.rows.specs.Places.{text_of}
 use Rattle.rows.specs.Rows.{in_use, revalued, redeclared, blank_variable, import, blank_import}
 use Rattle.names.specs.Lists.{appended, last_named, name_in, rewound, shortened}
-use Rattle.host.specs.declared.view.Declaration.{Declaration}
 use Rattle.host.specs.Meaning.{HostMeaning, Seen, Step, over, place_of}
-use Rattle.outcome.specs.declared.Failure.{Failure}
 use Rattle.run.specs.Acts.{Out, value, failed, broke, again, returned, exited, By, letting, evaluating, allowing, looping, catching, Found, found, missing, beyond, Act, ask, permit, room, declare, find, store, redeclare, another, load, Reply, Turn, over as is_over, sets, Tree, done, charge, act, seq, inner, binding, rounds, items}
 
 -- the names, imports, level and search mark: what an inner block puts back

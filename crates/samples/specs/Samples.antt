@@ -1,5 +1,5 @@
 -- samples: a rule image, a host and a list of calls, and what they answer
-use Rattle.std.specs.Prelude.{◌≡◌, ℕ, ◌-◌, Bool, true, false, cond, List, [], ◌∷◌, map, length, replicate, ℤ, pos, negsuc, Some, None, Ok, Err, Option, Result, ◌==◌}
+use Rattle.std.specs.Prelude.{◌≡◌, ℕ, ◌-◌, Bool, true, false, cond, List, [], ◌∷◌, map, length, replicate, pos, negsuc, Some, None, Ok, Err, Option, Result, ◌==◌}
 use Rattle.image.specs.declared.refusal.Refusal.{Refusal}
 use Rattle.image.specs.Refusals.{number}
 use Rattle.rule.specs.Checked.{checked}
@@ -9,7 +9,7 @@ use Rattle.rows.specs.declared.place.Source.{Source}
 use Rattle.rows.specs.declared.variable.VarRow.{VarRow}
 use Rattle.rows.specs.Rows.{in_use, variable, blank_variable, blank_import}
 use Rattle.host.specs.declared.answers.Fault.{Fault}
-use Rattle.host.specs.Meaning.{HostMeaning, Seen, Step}
+use Rattle.host.specs.Meaning.{HostMeaning}
 use Rattle.resolve.specs.declared.resolver.Resolved.{Resolved}
 use Rattle.resolve.specs.declared.table.PathRow.{PathRow}
 use Rattle.resolve.specs.Pair.{unless_found}
@@ -35,7 +35,7 @@ use Rattle.script.specs.declared.value.ScriptValue.TheVariants as v
 use Rattle.script.specs.Answers.{eval_answer, allow_answer}
 use Rattle.script.specs.Effects.{both_done}
 use Rattle.script.specs.Meaning.{script_meaning, eval_entry, allow_entry, turned}
-use Rattle.run.specs.Session.{Lent, Call, put, read, rewind, run, Answer, refused as refused_call, made as made_call, got as got_call, ran as ran_call, Terms, World, Entry, calls, opened, open_refusal}
+use Rattle.run.specs.Session.{Lent, Call, put, read, rewind, run, Answer, refused as refused_call, made as made_call, got as got_call, ran as ran_call, Terms, Entry, calls, opened, open_refusal}
 
 abbrev pub place : Source → ℕ → ℕ → Place
 place s o n = record { source = s; offset = o; length = n }

@@ -8,14 +8,14 @@ use Rattle.resolve.specs.declared.resolver.Resolved.TheVariants as resolve
 use Rattle.outcome.specs.Faults.{nothing, name, operator, path, code, value}
 use Rattle.list.specs.declared.list_host.ListEntry.TheVariants as entry
 use Rattle.site.specs.declared.expr.Operand.TheVariants.{Constant, Variable}
-use Rattle.site.specs.declared.expr.SiteExpr.TheVariants.{Operand, Add, Subtract, Less, Equal, Range}
+use Rattle.site.specs.declared.expr.SiteExpr.TheVariants.{Operand, Add, Subtract, Equal}
 use Rattle.site.specs.declared.value.SiteValue.TheVariants as w
 use Rattle.script.specs.declared.answer.AllowAnswer.TheVariants as allow
 use Rattle.script.specs.declared.answer.EvalAnswer.TheVariants as eval
 use Rattle.script.specs.declared.effect.Effect.TheVariants.{Append, Set, None as Nothing}
 use Rattle.script.specs.declared.value.ScriptValue.TheVariants as v
 use Rattle.run.specs.Session.{put, read, rewind, run}
-use Rattle.samples.specs.Samples.{Sample, site, scripted, listed, place, fault, evaluation, declaration, row, lend, passes, fails, refused, made, got, ran, told}
+use Rattle.samples.specs.Samples.{Sample, site, scripted, listed, place, fault, evaluation, declaration, row, lend, passes, refused, made, got, ran, told}
 
 abbrev pub table : List Sample
 table =

@@ -1,5 +1,5 @@
 -- what the effects of a script do to the variables
-use Rattle.std.specs.Prelude.{ℕ, ◌+◌, ◌-◌, min, Bool, cond, ◌&&◌, List, [], ◌∷◌, ◌++◌, length, get_or, set, Some, None, Option, nat_le, nat_lt, slice_index_or, slice_set}
+use Rattle.std.specs.Prelude.{ℕ, ◌+◌, ◌-◌, min, Bool, cond, ◌&&◌, List, [], ◌∷◌, ◌++◌, length, get_or, Some, None, Option, nat_le, nat_lt, slice_index_or, slice_set}
 use Rattle.rows.specs.declared.variable.Access.TheVariants.{ReadWrite}
 use Rattle.rows.specs.declared.variable.VarRow.{VarRow}
 use Rattle.rows.specs.Rows.{variable, revalued, blank_variable}

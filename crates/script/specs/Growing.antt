@@ -1,5 +1,5 @@
 -- effects change the variables only as a host may; the laws of a host are cited by a contract, so their lemmas stand here
-use Rattle.std.specs.Prelude.{◌≡◌, ℕ, ◌+◌, ◌-◌, ◌<◌, ◌≤◌, Bool, true, false, cond, List, [], ◌∷◌, ◌++◌, map, length, get_or, take, set, Some, None, Option, nat_lt, slice_index_or, slice_set, refl}
+use Rattle.std.specs.Prelude.{◌≡◌, ℕ, ◌<◌, ◌≤◌, Bool, true, false, cond, List, [], ◌∷◌, ◌++◌, map, length, get_or, take, set, Some, None, Option, nat_lt, slice_index_or, slice_set, refl}
 use Rattle.std.proofs.Common.{inl, inr, sym, ap, ◌∙◌, arith}
 use Rattle.std.proofs.lemmas.List.{length_push, length-set, take_all, take_at, take-map, take-take, map-set, set-get_or, get_or-map, get_or-take, get_or_push, length-take-le}
 use Rattle.std.proofs.lemmas.Bool.{ltb-true, cases_lt}

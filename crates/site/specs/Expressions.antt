@@ -1,5 +1,5 @@
 -- what an expression comes to
-use Rattle.std.specs.Prelude.{ℕ, cond, List, length, Some, None, Ok, Err, Option, slice_index_or}
+use Rattle.std.specs.Prelude.{ℕ, List, Some, None, Ok, Err, Option, slice_index_or}
 use Rattle.rows.specs.declared.place.Place.{Place}
 use Rattle.rows.specs.declared.variable.VarRow.{VarRow}
 use Rattle.rows.specs.Places.{text_of}

@@ -1,8 +1,7 @@
 -- the site host keeps the rules of every host
-use Rattle.std.specs.Prelude.{◌≡◌, ℕ, ◌≤◌, Bool, true, false, cond, List, Some, None, ◌≢◌, nat_le, refl}
+use Rattle.std.specs.Prelude.{◌≡◌, ℕ, Bool, true, false, cond, List, Some, None, ◌≢◌, nat_le, refl}
 use Rattle.std.proofs.Common.{arith}
 use Rattle.std.proofs.lemmas.Bool.{le-leb, cond-true}
-use Rattle.host.specs.declared.answers.Item.{Item}
 use Rattle.host.specs.declared.answers.Item.TheVariants as item
 use Rattle.host.specs.Meaning.{HostLaws, most_whole}
 use Rattle.host.proofs.Steps.{grown_none}

@@ -1,5 +1,5 @@
 -- the operators of the site host on two values
-use Rattle.std.specs.Prelude.{ℕ, ◌^◌, Bool, true, false, cond, not, ◌&&◌, ℤ, pos, negsuc, ◌+ℤ◌, ◌-ℤ◌, Ok, Err, Result, ◌==◌, int_lt}
+use Rattle.std.specs.Prelude.{◌^◌, Bool, true, false, cond, not, ◌&&◌, ℤ, pos, negsuc, ◌+ℤ◌, ◌-ℤ◌, Ok, Err, Result, ◌==◌, int_lt}
 use Rattle.site.specs.declared.ops.Operator.{Operator}
 use Rattle.site.specs.declared.ops.Operator.TheVariants as operator
 use Rattle.site.specs.declared.value.Failure.{Failure}

@@ -1,5 +1,5 @@
 -- the expressions of a table, by code
-use Rattle.std.specs.Prelude.{ℕ, cond, List, length, get_or, Some, None, Option, nat_lt, slice_index_or}
+use Rattle.std.specs.Prelude.{ℕ, cond, List, length, Some, None, Option, nat_lt, slice_index_or}
 use Rattle.site.specs.declared.expr.Operand.TheVariants.{Constant}
 use Rattle.site.specs.declared.expr.SiteExpr.{SiteExpr}
 use Rattle.site.specs.declared.expr.SiteExpr.TheVariants as expr

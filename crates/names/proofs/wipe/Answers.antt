@@ -1,5 +1,4 @@
-use Rattle.std.proofs.Common.{◌≡◌, set, sym, ap, ◌∙◌, arith}
-use Rattle.names.specs.Lists.{wiped}
+use Rattle.std.proofs.Common.{◌≡◌, set, ap, ◌∙◌, arith}
 use Rattle.names.proofs.Blanking.{wiped_to, wiped-none, wiped-more, wiped_all}
 use Rattle.names.proofs.wipe.Goals as goal
 

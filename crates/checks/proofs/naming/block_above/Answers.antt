@@ -1,4 +1,4 @@
-use Rattle.std.proofs.Common.{◌≡◌, ℕ, ◌+◌, ◌<◌, Bool, sym, ap, ◌∙◌, arith}
+use Rattle.std.proofs.Common.{ℕ, ◌+◌, ◌<◌, Bool, sym, ap, ◌∙◌, arith}
 use Rattle.image.specs.Rows.{block, stmt, parts}
 use Rattle.image.specs.declared.rows.Block.{Block}
 use Rattle.image.proofs.Below.{all_more, all_fails}

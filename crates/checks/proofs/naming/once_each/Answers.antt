@@ -1,4 +1,4 @@
-use Rattle.std.proofs.Common.{◌≡◌, ℕ, ◌<◌, Bool, ◌||◌, eqb, sym, ap, ◌∙◌, arith}
+use Rattle.std.proofs.Common.{ℕ, ◌<◌, Bool, ◌||◌, eqb, sym, ap, ◌∙◌, arith}
 use Rattle.std.proofs.lemmas.Bool.{or_from, or_right, ne_eqb, eq-eqb}
 use Rattle.image.specs.Layouts.{layout_of}
 use Rattle.image.specs.declared.layout.Layout.{Layout}

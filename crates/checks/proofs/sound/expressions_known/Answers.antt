@@ -1,4 +1,4 @@
-use Rattle.std.proofs.Common.{◌≡◌, ℕ, ◌<◌, Bool, is_some, sym, ap, ◌∙◌, arith}
+use Rattle.std.proofs.Common.{ℕ, ◌<◌, Bool, is_some, sym, ap, ◌∙◌, arith}
 use Rattle.image.specs.Layouts.{layout_of}
 use Rattle.image.specs.Rows.{expr_at}
 use Rattle.image.specs.declared.layout.Layout.{Layout}

@@ -1,4 +1,4 @@
-use Rattle.std.proofs.Common.{◌≡◌, ◌<◌, sym, ap, arith}
+use Rattle.std.proofs.Common.{◌<◌, sym, ap, arith}
 use Rattle.image.specs.Layouts.{layout_of}
 use Rattle.image.specs.declared.layout.Layout.{Layout}
 use Rattle.image.proofs.Below.{all_more, all_fails}

@@ -1,10 +1,9 @@
-use Rattle.std.proofs.Common.{◌≡◌, ◌<◌, ◌≤◌, ap, ◌∙◌, arith}
+use Rattle.std.proofs.Common.{◌<◌, ap, ◌∙◌, arith}
 use Rattle.image.specs.Rows.{block}
 use Rattle.image.specs.declared.rows.Block.{Block}
 use Rattle.image.proofs.Below.{sum_more}
 use Rattle.rule.specs.declared.summary.Summary.{Summary}
-use Rattle.rule.specs.Tree.{stmt_in, named}
-use Rattle.rule.specs.Summaries.{absent, entry, of_row, cost, value}
+use Rattle.rule.specs.Summaries.{entry, of_row, cost, value}
 use Rattle.rule.proofs.Costs.{row-cost, plus-value, joined-more}
 use Rattle.rule.proofs.Sums.{part}
 use Rattle.rule.proofs.table.of_block.Goals as goal

@@ -1,4 +1,4 @@
-use Rattle.std.proofs.Common.{◌≡◌, ◌≤◌, ap, arith}
+use Rattle.std.proofs.Common.{◌≤◌, ap, arith}
 use Rattle.image.specs.Layouts.{layout_of}
 use Rattle.image.specs.declared.layout.Layout.{Layout}
 use Rattle.rule.proofs.Filling.{filled_none, room, filled_more}
