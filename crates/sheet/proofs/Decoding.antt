@@ -1,12 +1,11 @@
 -- a statement in range is decoded from its own fields
-use Rattle.std.proofs.Common.{◌≡◌, ℕ, ◌+◌, ◌<◌, ◌≤◌, Bool, true, false, cond, not, ◌&&◌, eqb, ltb, leb, Some, None, Option, sym, refl, ap, ◌∙◌, ap₂, arith}
+use Rattle.std.proofs.Common.{◌≡◌, ℕ, Bool, true, false, cond, not, ◌&&◌, eqb, leb, Some, None, Option, sym, refl, ap, ◌∙◌, ap₂, arith}
 use Rattle.std.proofs.lemmas.Bool.{and_parts, cond-true, cond-false, leb-true, ltb-true, ne_eqb}
 use Rattle.image.specs.Bytes.{all_below}
 use Rattle.image.specs.declared.rows.Name.{Name}
 use Rattle.image.specs.declared.rows.Position.{Position}
 use Rattle.image.specs.declared.rows.Stmt.{Stmt}
 use Rattle.image.specs.declared.rows.Stmt.TheVariants.{Noop, Expr, Block, Assignment, Var, If, While, Do, For, BreakLoop, TryCatch, Return, Import}
-use Rattle.image.specs.declared.rows.StmtRow.{StmtRow}
 use Rattle.image.specs.Rows.{reference, nonzero, name_of, flag, required, required_both, row_of, stmt_from}
 use Rattle.image.proofs.Below.{all_at}
 use Rattle.sheet.specs.declared.sheet.Unread.{Unread}

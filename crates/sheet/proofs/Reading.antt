@@ -1,5 +1,5 @@
 -- what is read of the image that is written of a sheet
-use Rattle.std.proofs.Common.{◌≡◌, ℕ, zero, suc, ◌+◌, ◌*◌, ◌<◌, ◌≤◌, Bool, true, false, cond, ◌&&◌, eqb, ltb, leb, ◌⊎◌, List, [], ◌∷◌, ◌++◌, length, get_or, drop, Some, None, Ok, Err, Option, Result, sym, refl, ap, ◌∙◌, ap₂, inl, inr, arith, lit<}
+use Rattle.std.proofs.Common.{◌≡◌, ℕ, zero, suc, ◌+◌, ◌*◌, ◌<◌, true, cond, ◌&&◌, ltb, leb, List, [], ◌∷◌, ◌++◌, length, get_or, drop, Some, None, Option, sym, refl, ap, ◌∙◌, ap₂, inl, inr, arith, lit<}
 use mathlib.Core.Path.{fun_ext}
 use native.Mathlib.Nat.{mod-add-div}
 use Rattle.std.specs.List.{slice_get, flat_map}
@@ -8,24 +8,17 @@ use Rattle.std.proofs.lemmas.List.{length-append, drop-drop, drop_at, get_or_pas
 use Rattle.std.proofs.lemmas.Option.{slice_get-get_or, slice_get_past}
 use Rattle.std.proofs.lemmas.Bool.{and_parts, and_from, cases_lt, cond-true, cond-false, lt-ltb, le-ltb, le-leb, eq-eqb}
 use Rattle.image.specs.Bytes.{word}
-use Rattle.image.specs.Layouts.{headed, counted, layout_of}
-use Rattle.image.specs.Rows.{Rows, rows_of, text_of, block_from, block, expr_kind, placed, expr_from, expr_at, fields_from, stmt_from, stmt_at}
-use Rattle.image.specs.declared.fields.Fields.{Fields}
-use Rattle.image.specs.declared.layout.Layout.{Layout}
-use Rattle.image.specs.declared.refusal.Refusal.{Refusal}
-use Rattle.image.specs.declared.refusal.Refusal.TheVariants.{Header, Counts}
+use Rattle.image.specs.Layouts.{headed, counted}
+use Rattle.image.specs.Rows.{block_from, block, expr_kind, placed, expr_from, expr_at, fields_from, stmt_from, stmt_at}
 use Rattle.image.specs.declared.rows.Block.{Block}
-use Rattle.image.specs.declared.rows.Expr.{Expr as ExprRow}
 use Rattle.image.specs.declared.rows.ExprKind.{ExprKind}
 use Rattle.image.specs.declared.rows.ExprKind.TheVariants.{Host, Unit as UnitExpr, False, True}
 use Rattle.image.specs.declared.rows.Stmt.TheVariants.{Noop}
-use Rattle.image.specs.declared.rows.StmtRow.{StmtRow}
-use Rattle.rule.specs.Checked.{checked, examinedOf, unless}
 use Rattle.sheet.specs.declared.sheet.ExprEntry.{ExprEntry}
 use Rattle.sheet.specs.declared.sheet.Sheet.{Sheet}
 use Rattle.sheet.specs.declared.sheet.StmtEntry.{StmtEntry}
 use Rattle.sheet.specs.Encoding.{low, high, fields_of, kind_number, code_or, block_bytes, stmt_bytes, expr_bytes}
-use Rattle.sheet.specs.Images.{written, rows_in, ReadsAs}
+use Rattle.sheet.specs.Images.{written, ReadsAs}
 use Rattle.sheet.specs.Ranges.{entry_fits, all_fit, in_range, stmt_fits}
 use Rattle.sheet.proofs.Decoding.{stmt_back}
 use Rattle.sheet.proofs.Tables.{length-rows, byte_back, first_back, word_back, first_word}
@@ -251,9 +244,3 @@ module _ (x : Sheet) where
         (and_from _ _ (ap (λ n. leb n 1024) statements_back ∙ c.statements)
         (and_from _ _ (ap (λ n. leb n 1024) expressions_back ∙ c.expressions)
         (and_from _ _ (ap (λ n. leb n 2048) text_back ∙ c.text) (eq-eqb _ _ length-written))))
-
-    -- and is checked as the sheet's rows are
-    pub check_back : checked (written x) ≡ examinedOf (rows_in x)
-    check_back =
-        cond-true (headed (written x)) _ (Err Header) is_headed ∙ cond-true (counted (written x)) _ (Err Counts) is_counted
-        ∙ ap examinedOf reads_as.rows

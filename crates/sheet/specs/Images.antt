@@ -40,6 +40,6 @@ pub record ReadsAs (s : List ℕ) (x : Sheet) : Type 0 where
   pub text : text_of s ≡ x.text.now
 
 -- when there is no image: the sheet is out of range, or it is in range and memory was short
-abbrev pub fails : Sheet → Unwritten → Type 0
-fails x Range = in_range x ≡ false
-fails x Memory = in_range x ≡ true
+abbrev pub Fails : Sheet → Unwritten → Type 0
+Fails x Range = in_range x ≡ false
+Fails x Memory = in_range x ≡ true

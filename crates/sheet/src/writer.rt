@@ -1,7 +1,6 @@
 ghost use Rattle.std.specs.Prelude.{◌≡◌, true, ◌++◌, IfOk, Ok, Err, OnOk};
 ghost use Rattle.std.specs.List.{flat_map};
-ghost use Rattle.rule.specs.Checked.{checked, examinedOf};
-ghost use Rattle.sheet.specs.Images.{tables, written, rows_in, ReadsAs, fails};
+ghost use Rattle.sheet.specs.Images.{tables, written, ReadsAs, Fails};
 ghost use Rattle.sheet.specs.Ranges.{in_range};
 
 use crate::bytes::{Written, header};
@@ -56,8 +55,7 @@ fn image_of(heap: Global, sheet: Sheet<'_>) -> Result<Vec<u8>, AllocError>
 pub fn write(heap: Global, sheet: Sheet<'_>) -> Result<Vec<u8>, Unwritten>
     ensures bytes { IfOk result (λ v. v.items ≡ written sheet.entry) }
     ensures reads { IfOk result (λ v. ReadsAs v.items sheet.entry) }
-    ensures check { IfOk result (λ v. checked v.items ≡ examinedOf (rows_in sheet.entry)) }
-    ensures range { elim result [ Ok _ ↦ in_range sheet.entry ≡ true | Err e ↦ fails sheet.entry e ] }
+    ensures range { elim result [ Ok _ ↦ in_range sheet.entry ≡ true | Err e ↦ Fails sheet.entry e ] }
 {
     if !in_range(sheet) {
         return Err(Unwritten::Range);
