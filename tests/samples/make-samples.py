@@ -3,7 +3,8 @@
 
 The cases are those that were made by hand, each for one thing: of reference/recorded/main.txt with
 the answers of the original, and of differences-by-rules.txt with the answers that the rules give
-where the original departs. docs/CASES.md describes their format.
+where the original departs. docs/CASES.md describes their format. `rt fmt` in that crate then lays the
+table out.
 """
 
 import re
