@@ -125,7 +125,7 @@ def verdict(bare):
     good, said = proved(bare, "samples")
     if good:
         return "survives the samples"
-    if "the library run did not build" in said:
+    if "the library run did not build" in said or "no library was built" in said:
         return "is no definition"
     return "refuted by a sample"
 
