@@ -1,5 +1,5 @@
 -- what is read of the image that is written of a sheet
-use Rattle.std.proofs.Common.{◌≡◌, ℕ, zero, suc, ◌+◌, ◌*◌, ◌<◌, true, cond, ◌&&◌, ltb, leb, List, [], ◌∷◌, ◌++◌, length, get_or, drop, Some, None, Option, sym, refl, ap, ◌∙◌, ap₂, inl, inr, arith, lit<}
+use Rattle.std.proofs.Common.{◌≡◌, ℕ, zero, suc, ◌+◌, ◌*◌, ◌<◌, true, cond, ◌&&◌, ltb, leb, List, [], ◌∷◌, ◌++◌, length, get_or, drop, Some, None, Err, Option, sym, refl, ap, ◌∙◌, ap₂, inl, inr, arith, lit<}
 use mathlib.Core.Path.{fun_ext}
 use native.Mathlib.Nat.{mod-add-div}
 use Rattle.std.specs.List.{slice_get, flat_map}
@@ -10,10 +10,12 @@ use Rattle.std.proofs.lemmas.Bool.{and_parts, and_from, cases_lt, cond-true, con
 use Rattle.image.specs.Bytes.{word}
 use Rattle.image.specs.Layouts.{headed, counted}
 use Rattle.image.specs.Rows.{block_from, block, expr_kind, placed, expr_from, expr_at, fields_from, stmt_from, stmt_at}
+use Rattle.image.specs.declared.refusal.Refusal.TheVariants.{Header, Counts}
 use Rattle.image.specs.declared.rows.Block.{Block}
 use Rattle.image.specs.declared.rows.ExprKind.{ExprKind}
 use Rattle.image.specs.declared.rows.ExprKind.TheVariants.{Host, Unit as UnitExpr, False, True}
 use Rattle.image.specs.declared.rows.Stmt.TheVariants.{Noop}
+use Rattle.rule.specs.Checked.{checked, examined}
 use Rattle.sheet.specs.declared.sheet.ExprEntry.{ExprEntry}
 use Rattle.sheet.specs.declared.sheet.Sheet.{Sheet}
 use Rattle.sheet.specs.declared.sheet.StmtEntry.{StmtEntry}
@@ -244,3 +246,7 @@ module _ (x : Sheet) where
         (and_from _ _ (ap (λ n. leb n 1024) statements_back ∙ c.statements)
         (and_from _ _ (ap (λ n. leb n 1024) expressions_back ∙ c.expressions)
         (and_from _ _ (ap (λ n. leb n 2048) text_back ∙ c.text) (eq-eqb _ _ length-written))))
+
+    -- and is refused, if at all, by the rules of its rows
+    pub header_back : checked (written x) ≡ examined (written x)
+    header_back = cond-true (headed (written x)) _ (Err Header) is_headed ∙ cond-true (counted (written x)) _ (Err Counts) is_counted

@@ -5,6 +5,8 @@ mod bytes;
 mod encode;
 mod range;
 mod sheet;
+#[cfg(test)]
+mod tests;
 mod writer;
 
 pub use sheet::{ExprEntry, Sheet, StmtEntry, Unread};

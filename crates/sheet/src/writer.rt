@@ -1,5 +1,6 @@
 ghost use Rattle.std.specs.Prelude.{◌≡◌, true, ◌++◌, IfOk, Ok, Err, OnOk};
 ghost use Rattle.std.specs.List.{flat_map};
+ghost use Rattle.rule.specs.Checked.{checked, examined};
 ghost use Rattle.sheet.specs.Images.{tables, written, ReadsAs, Fails};
 ghost use Rattle.sheet.specs.Ranges.{in_range};
 
@@ -55,6 +56,8 @@ fn image_of(heap: Global, sheet: Sheet<'_>) -> Result<Vec<u8>, AllocError>
 pub fn write(heap: Global, sheet: Sheet<'_>) -> Result<Vec<u8>, Unwritten>
     ensures bytes { IfOk result (λ v. v.items ≡ written sheet.entry) }
     ensures reads { IfOk result (λ v. ReadsAs v.items sheet.entry) }
+    // Its header and counts are right, so only the rules of its rows can refuse it.
+    ensures header { IfOk result (λ v. checked v.items ≡ examined v.items) }
     ensures range { elim result [ Ok _ ↦ in_range sheet.entry ≡ true | Err e ↦ Fails sheet.entry e ] }
 {
     if !in_range(sheet) {

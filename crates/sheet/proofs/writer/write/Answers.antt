@@ -1,7 +1,8 @@
 use Rattle.std.proofs.Common.{◌≡◌, true, vec_items, sym, subst}
+use Rattle.rule.specs.Checked.{checked, examined}
 use Rattle.sheet.specs.Images.{written, ReadsAs}
 use Rattle.sheet.specs.Ranges.{in_range}
-use Rattle.sheet.proofs.Reading.{reads_as}
+use Rattle.sheet.proofs.Reading.{reads_as, header_back}
 use Rattle.sheet.proofs.writer.write.Goals as goal
 
 pub returns-in-Ok : goal.returns-in-Ok
@@ -9,4 +10,4 @@ returns-in-Ok c =
     let x = c.args.sheet in
     let range : in_range x ≡ true = sym c.if-not-in_range.ensures in
     let e : vec_items c.in-Ok.image ≡ written x = c.in-Ok.ensures in
-    record { bytes = e; reads = subst (λ v. ReadsAs v x) (sym e) (reads_as x range); range = range }
+    record { bytes = e; reads = subst (λ v. ReadsAs v x) (sym e) (reads_as x range); header = subst (λ v. checked v ≡ examined v) (sym e) (header_back x range); range = range }
