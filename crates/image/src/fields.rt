@@ -1,5 +1,5 @@
 /// A statement row as it stands in the image, field by field.
-#[derive(Clone, Copy)]
+#[derive(Clone, Copy, PartialEq, Eq, Debug)]
 pub struct Fields {
     pub kind: u8,
     pub flags: u8,

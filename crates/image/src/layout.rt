@@ -1,5 +1,8 @@
+/// The most blocks that an image has.
+pub const MOST_BLOCKS: usize = 256;
+
 /// Where the tables of an image begin, in bytes, and how many rows each has.
-#[derive(Clone, Copy)]
+#[derive(Clone, Copy, PartialEq, Eq, Debug)]
 pub struct Layout {
     /// Number of block rows.
     pub blocks: usize,

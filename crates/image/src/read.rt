@@ -7,7 +7,7 @@ ghost use Rattle.image.specs.Rows.{block_from, expr_from, fields_from};
 
 use crate::decode::expr_kind;
 use crate::fields::Fields;
-use crate::layout::Layout;
+use crate::layout::{Layout, MOST_BLOCKS};
 use crate::refusal::Refusal;
 use crate::rows::{Block, Expr, Position};
 
@@ -46,7 +46,12 @@ pub(crate) fn read_layout(image: &[u8]) -> Result<Layout, Refusal>
     let statements = pair(*s0, *s1) as usize;
     let expressions = pair(*e0, *e1) as usize;
     let text = pair(*n0, *n1) as usize;
-    if blocks < 1 || blocks > 256 || statements > 1024 || expressions > 1024 || text > 2048 {
+    if blocks < 1
+        || blocks > MOST_BLOCKS
+        || statements > 1024
+        || expressions > 1024
+        || text > 2048
+    {
         return Err(Refusal::Counts);
     }
     let blocks_at = image.len() - tables.len();

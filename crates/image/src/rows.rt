@@ -1,26 +1,31 @@
 /// A place in the rule's source. Line 0 and column 0 together are no place.
-#[derive(Clone, Copy)]
+#[derive(Clone, Copy, PartialEq, Eq, Debug)]
 pub struct Position {
     pub line: u16,
     pub column: u16,
 }
 
+impl Position {
+    /// No place: line 0 and column 0 together.
+    pub const NONE: Position = Position { line: 0, column: 0 };
+}
+
 /// A part of the rule's name text.
-#[derive(Clone, Copy)]
+#[derive(Clone, Copy, PartialEq, Eq, Debug)]
 pub struct Name {
     pub offset: u16,
     pub length: u16,
 }
 
 /// A block row: its statements stand together in the statement table.
-#[derive(Clone, Copy)]
+#[derive(Clone, Copy, PartialEq, Eq, Debug)]
 pub struct Block {
     pub first: u16,
     pub count: u16,
 }
 
 /// What an expression is: a constant, or the host's under a code.
-#[derive(Clone, Copy)]
+#[derive(Clone, Copy, PartialEq, Eq, Debug)]
 pub enum ExprKind {
     Host(u16),
     Unit,
@@ -29,7 +34,7 @@ pub enum ExprKind {
 }
 
 /// An expression row.
-#[derive(Clone, Copy)]
+#[derive(Clone, Copy, PartialEq, Eq, Debug)]
 pub struct Expr {
     pub at: Position,
     pub kind: ExprKind,
@@ -37,7 +42,7 @@ pub struct Expr {
 
 /// A statement with the fields that its kind reads, and no others. Expressions and blocks go by the
 /// number of their row, and `None` in the place of a block is an empty block.
-#[derive(Clone, Copy)]
+#[derive(Clone, Copy, PartialEq, Eq, Debug)]
 pub enum Stmt {
     Noop,
     Expr {
@@ -99,14 +104,14 @@ pub enum Stmt {
 }
 
 /// A statement row.
-#[derive(Clone, Copy)]
+#[derive(Clone, Copy, PartialEq, Eq, Debug)]
 pub struct StmtRow {
     pub at: Position,
     pub stmt: Stmt,
 }
 
 /// The references of a statement, whatever its kind.
-#[derive(Clone, Copy)]
+#[derive(Clone, Copy, PartialEq, Eq, Debug)]
 pub struct Parts {
     pub expr: Option<u16>,
     pub body: Option<u16>,
