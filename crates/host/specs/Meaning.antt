@@ -1,16 +1,13 @@
 -- the meaning of a host, and the rules that every meaning keeps
-use Rattle.std.specs.Prelude.{◌≡◌, ℕ, ◌<◌, ◌≤◌, min, max, Bool, true, List, ◌++◌, map, length, take, drop, Some, Option, slice_index_or}
+use Rattle.std.specs.Prelude.{◌≡◌, ℕ, ◌<◌, ◌≤◌, min, max, Bool, true, List, ◌++◌, map, length, take, drop, Some, Option, Err, slice_index_or}
 use Rattle.rows.specs.declared.place.Place.{Place}
 use Rattle.rows.specs.declared.variable.Access.{Access}
 use Rattle.rows.specs.declared.variable.Access.TheVariants.{ReadWrite}
 use Rattle.rows.specs.declared.variable.VarRow.{VarRow}
 use Rattle.rows.specs.Rows.{in_use}
-use Rattle.host.specs.declared.answers.Allowed.{Allowed}
-use Rattle.host.specs.declared.answers.Applied.{Applied}
 use Rattle.host.specs.declared.answers.Caught.{Caught}
-use Rattle.host.specs.declared.answers.Evaluated.{Evaluated}
-use Rattle.host.specs.declared.answers.Item.{Item}
-use Rattle.host.specs.declared.answers.Item.TheVariants.{NotIterable}
+use Rattle.host.specs.declared.answers.NoItem.TheVariants.{NotIterable}
+use Rattle.host.specs.Answers.{Evaluated, Allowed, Applied, Item}
 use Rattle.host.specs.declared.view.Declaration.{Declaration}
 use Rattle.host.specs.declared.view.View.{View}
 
@@ -81,7 +78,7 @@ pub record HostLaws {S V : Type 0} (m : HostMeaning S V) : Type 0 where
   pub truths : (b : Bool) → m.truth (m.make_truth b) ≡ Some b
   pub wholes : (n : ℕ) → n ≤ most_whole → m.whole (m.make_whole n) ≡ Some n
   -- what is not iterable at one index is so at every other
-  pub iterable : (v : V) (i j : ℕ) → m.item v i ≡ NotIterable → m.item v j ≡ NotIterable
+  pub iterable : (v : V) (i j : ℕ) → m.item v i ≡ Err NotIterable → m.item v j ≡ Err NotIterable
 
 -- rows at the front of a table
 abbrev pub over : {R : Type 0} → List R → List R → List R

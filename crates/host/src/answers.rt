@@ -5,49 +5,42 @@ use image::Position;
 use rows::Place;
 
 /// A fault of a host or a resolver. Line 0 and column 0 are no position.
-#[derive(Clone, Copy)]
+#[derive(Clone, Copy, Debug, PartialEq, Eq)]
 pub struct Fault {
     pub code: u16,
     pub at: Position,
     pub catchable: bool,
 }
 
-/// The answer to an evaluation.
-#[derive(Clone, Copy)]
-pub enum Evaluated<V> {
-    Value(V),
+/// Why an evaluation has no value.
+#[derive(Clone, Copy, Debug, PartialEq, Eq)]
+pub enum Halt<V> {
     Fault(Fault),
     /// The run is to end with this value.
     Exit(V),
 }
 
-/// The answer to a declaration.
-#[derive(Clone, Copy)]
-pub enum Allowed {
-    Yes,
-    No,
-    Fault(Fault),
-}
+/// The answer to an evaluation.
+pub type Evaluated<V> = Result<V, Halt<V>>;
 
-/// The answer of an operator.
-#[derive(Clone, Copy)]
-pub enum Applied<V> {
-    Value(V),
-    NotFound,
-    Fault(Fault),
-}
+/// The answer to a declaration: whether the name may be declared.
+pub type Allowed = Result<bool, Fault>;
 
-/// The answer to the question for an item.
-#[derive(Clone, Copy)]
-pub enum Item<V> {
-    Item(V),
-    Fault(Fault),
-    End,
+/// The answer of an operator: none where there is no function for it.
+pub type Applied<V> = Result<Option<V>, Fault>;
+
+/// Why a value has no item at an index.
+#[derive(Clone, Copy, Debug, PartialEq, Eq)]
+pub enum NoItem {
     NotIterable,
+    Fault(Fault),
 }
+
+/// The answer to the question for an item: none at the end.
+pub type Item<V> = Result<Option<V>, NoItem>;
 
 /// A fault of a run that a catch took, but for a thrown value, which is its own.
-#[derive(Clone, Copy)]
+#[derive(Clone, Copy, Debug, PartialEq, Eq)]
 pub enum Caught {
     /// The host said no to this name.
     NotAllowed(Place),

@@ -5,6 +5,6 @@ mod answers;
 mod host;
 mod view;
 
-pub use answers::{Allowed, Applied, Caught, Evaluated, Fault, Item};
+pub use answers::{Allowed, Applied, Caught, Evaluated, Fault, Halt, Item, NoItem};
 pub use host::Host;
 pub use view::{Declaration, View};

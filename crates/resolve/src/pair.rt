@@ -14,7 +14,7 @@ impl<A: Resolver, B: Resolver> Resolver for Pair<A, B> {
 
     fn resolve(&self, path: u32) -> Resolved {
         match self.first.resolve(path) {
-            Resolved::NotFound => self.second.resolve(path),
+            Ok(None) => self.second.resolve(path),
             found => found,
         }
     }

@@ -1,15 +1,10 @@
 ghost use Rattle.std.specs.Prelude.{◌≡◌, ℕ};
-ghost use Rattle.resolve.specs.declared.resolver.Resolved.{Resolved};
+ghost use Rattle.resolve.specs.Answers.{Resolved};
 
 use host::Fault;
 
-/// The answer of a resolver.
-#[derive(Clone, Copy)]
-pub enum Resolved {
-    Module(u32),
-    NotFound,
-    Fault(Fault),
-}
+/// The answer of a resolver: a module, or none where there is no module under the path.
+pub type Resolved = Result<Option<u32>, Fault>;
 
 /// A resolver answers each path by itself: asking changes nothing.
 pub trait Resolver {
