@@ -1,11 +1,11 @@
 ghost use Rattle.std.specs.Prelude.{◌≡◌};
 ghost use Rattle.rows.specs.Rows.{import, blank_import};
 
-use crate::place::{NO_PLACE, Place};
+use crate::place::Place;
 use crate::row::{Blank, Named};
 
 /// An import: its name, and the module that it stands for.
-#[derive(Clone, Copy)]
+#[derive(Clone, Copy, PartialEq, Eq, Debug)]
 pub struct ImportRow {
     place: Place,
     module: u32,
@@ -38,7 +38,7 @@ impl Blank for ImportRow {
 
     fn blank() -> ImportRow {
         ImportRow {
-            place: NO_PLACE,
+            place: Place::NONE,
             module: 0,
         }
     }

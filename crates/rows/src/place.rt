@@ -2,26 +2,19 @@ ghost use Rattle.std.specs.Prelude.{◌≡◌};
 ghost use Rattle.rows.specs.Places.{text_of};
 
 /// The text that a name is a part of.
-#[derive(Clone, Copy)]
+#[derive(Clone, Copy, PartialEq, Eq, Debug)]
 pub enum Source {
     Rule,
     Site,
 }
 
-/// Where the text of a name lies. Offset 0 and length 0 in the rule's text stand for no name.
-#[derive(Clone, Copy)]
+/// Where the text of a name lies.
+#[derive(Clone, Copy, PartialEq, Eq, Debug)]
 pub struct Place {
     pub source: Source,
     pub offset: u32,
     pub length: u32,
 }
-
-/// The place that stands for no name.
-pub(crate) const NO_PLACE: Place = Place {
-    source: Source::Rule,
-    offset: 0,
-    length: 0,
-};
 
 /// The two texts that names are parts of.
 #[derive(Clone, Copy)]
@@ -31,6 +24,13 @@ pub struct Texts<'a> {
 }
 
 impl Place {
+    /// The place that stands for no name.
+    pub const NONE: Place = Place {
+        source: Source::Rule,
+        offset: 0,
+        length: 0,
+    };
+
     /// The part of the text that the place names; empty where the place does not fit.
     pub fn text<'a>(self, texts: Texts<'a>) -> &'a [u8]
         ensures { result.now ≡ text_of self texts.entry.rule.now texts.entry.site.now }

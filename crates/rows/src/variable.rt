@@ -1,18 +1,18 @@
 ghost use Rattle.std.specs.Prelude.{◌≡◌};
 ghost use Rattle.rows.specs.Rows.{variable, revalued, redeclared, blank_variable};
 
-use crate::place::{NO_PLACE, Place};
+use crate::place::Place;
 use crate::row::{Blank, Named, Unital};
 
 /// Whether a variable may be assigned to.
-#[derive(Clone, Copy)]
+#[derive(Clone, Copy, PartialEq, Eq, Debug)]
 pub enum Access {
     ReadWrite,
     Constant,
 }
 
 /// A variable: its name, whether it may be assigned to, and its value.
-#[derive(Clone, Copy)]
+#[derive(Clone, Copy, PartialEq, Eq, Debug)]
 pub struct VarRow<V> {
     place: Place,
     access: Access,
@@ -71,7 +71,7 @@ impl<V: Unital> Blank for VarRow<V> {
 
     fn blank() -> VarRow<V> {
         VarRow {
-            place: NO_PLACE,
+            place: Place::NONE,
             access: Access::ReadWrite,
             value: V::unit(),
         }
