@@ -41,10 +41,6 @@ impl Place {
         };
         let from = self.offset as usize;
         let to = from + self.length as usize;
-        if to <= whole.len() {
-            &whole[from..to]
-        } else {
-            &whole[0..0]
-        }
+        whole.get(from..to).unwrap_or(&[])
     }
 }

@@ -41,8 +41,11 @@ impl<V: Copy> VarRow<V> {
     pub fn redeclared(self, access: Access, value: V) -> VarRow<V>
         ensures { result ≡ redeclared self access value }
     {
-        let row = self.with_value(value);
-        VarRow { access, ..row }
+        VarRow {
+            access,
+            value,
+            ..self
+        }
     }
 
     pub fn access(&self) -> Access
