@@ -1,10 +1,9 @@
 -- the meaning of the list host
 use Rattle.std.specs.Prelude.{ℕ, ◌+◌, Bool, true, false, cond, List, length, nat_lt, slice_index_or}
-use Rattle.host.specs.declared.answers.Allowed.{Allowed}
+use Rattle.host.specs.declared.answers.Halt.TheVariants as halt
+use Rattle.host.specs.Answers.{Allowed, Evaluated}
 use Rattle.host.specs.declared.answers.Allowed.TheVariants.{Yes, No}
 use Rattle.host.specs.declared.answers.Applied.TheVariants.{NotFound}
-use Rattle.host.specs.declared.answers.Evaluated.{Evaluated}
-use Rattle.host.specs.declared.answers.Evaluated.TheVariants as evaluated
 use Rattle.host.specs.declared.answers.Fault.{Fault}
 use Rattle.host.specs.declared.answers.Item.TheVariants.{NotIterable}
 use Rattle.host.specs.Answers.{number}

@@ -1,5 +1,5 @@
 -- the one walk over the kinds of statements: their loops are lively, and they count no more than their quotes
-use Rattle.std.proofs.Common.{◌≡◌, ℕ, zero, suc, ◌+◌, ◌<◌, ◌≤◌, Bool, true, false, cond, not, eqb, List, [], ◌∷◌, Some, None, Option, sym, refl, ap, ◌∙◌, subst, add-zero, arith}
+use Rattle.std.proofs.Common.{◌≡◌, ℕ, zero, suc, ◌+◌, ◌<◌, ◌≤◌, Bool, true, false, cond, not, eqb, List, [], ◌∷◌, Some, None, Ok, Err, Option, sym, refl, ap, ◌∙◌, subst, add-zero, arith}
 use Rattle.image.specs.declared.rows.ExprKind.{ExprKind}
 use Rattle.image.specs.declared.rows.ExprKind.TheVariants.{Host as HostCode, Unit as UnitExpr, False, True}
 use Rattle.image.specs.declared.rows.Name.{Name}
@@ -13,17 +13,11 @@ use Rattle.rows.specs.declared.place.Place.{Place}
 use Rattle.rows.specs.declared.variable.Access.{Access}
 use Rattle.rows.specs.declared.variable.Access.TheVariants.{ReadWrite, Constant}
 use Rattle.rows.specs.declared.variable.VarRow.{VarRow}
-use Rattle.host.specs.declared.answers.Allowed.{Allowed}
-use Rattle.host.specs.declared.answers.Allowed.TheVariants as allowed
-use Rattle.host.specs.declared.answers.Applied.{Applied}
-use Rattle.host.specs.declared.answers.Applied.TheVariants as applied
-use Rattle.host.specs.declared.answers.Evaluated.{Evaluated}
-use Rattle.host.specs.declared.answers.Evaluated.TheVariants as evaluated
-use Rattle.host.specs.declared.answers.Item.{Item}
-use Rattle.host.specs.declared.answers.Item.TheVariants as item
+use Rattle.host.specs.declared.answers.Halt.TheVariants as halt
+use Rattle.host.specs.declared.answers.NoItem.TheVariants as no_item
+use Rattle.host.specs.Answers.{Allowed, Applied, Evaluated, Item}
 use Rattle.host.specs.Meaning.{HostMeaning}
-use Rattle.resolve.specs.declared.resolver.Resolved.{Resolved}
-use Rattle.resolve.specs.declared.resolver.Resolved.TheVariants as resolved
+use Rattle.resolve.specs.Answers.{Resolved}
 use Rattle.outcome.specs.declared.Failure.{Failure}
 use Rattle.outcome.specs.Faults.{catchable}
 use Rattle.run.specs.Acts.{catching, Out, value, failed, broke, again, returned, exited, Found, found, missing, beyond, Act, find, store, load, Reply, Turn, Tree, done, charge, act, seq, inner, binding, rounds, items}
@@ -182,14 +176,14 @@ module _ {S V : Type 0} (m : HostMeaning S V) (w : Setting) where
 
   -- the small steps count nothing
   goes-answered : (at : Position) (x : Evaluated V) → Goes (Statements.answered at x) (Some 0)
-  goes-answered at (evaluated.Value v) = goes-give v
-  goes-answered at (evaluated.Fault f) = goes-ends _
-  goes-answered at (evaluated.Exit v) = goes-ends _
+  goes-answered at (Ok v) = goes-give v
+  goes-answered at (Err (halt.Fault f)) = goes-ends _
+  goes-answered at (Err (halt.Exit v)) = goes-ends _
 
   goes-permitted : (at : Position) (n : Place) (x : Allowed) → Goes (Statements.permitted at n x) (Some 0)
-  goes-permitted at n allowed.Yes = goes-give tt
-  goes-permitted at n allowed.No = goes-ends _
-  goes-permitted at n (allowed.Fault f) = goes-ends _
+  goes-permitted at n (Ok true) = goes-give tt
+  goes-permitted at n (Ok false) = goes-ends _
+  goes-permitted at n (Err f) = goes-ends _
 
   goes-roomy : (at : Position) (b : Bool) → Goes (Statements.roomy {V = V} at b) (Some 0)
   goes-roomy at true = goes-give tt
@@ -213,14 +207,14 @@ module _ {S V : Type 0} (m : HostMeaning S V) (w : Setting) where
   goes-writable at n Constant = goes-ends _
 
   goes-operated : (at : Position) (d : Doing V V) (x : Applied V) → Goes d (Some 0) → Goes (Statements.operated at d x) (Some 0)
-  goes-operated at d (applied.Value v) h = goes-give v
-  goes-operated at d applied.NotFound h = h
-  goes-operated at d (applied.Fault f) h = goes-ends _
+  goes-operated at d (Ok (Some v)) h = goes-give v
+  goes-operated at d (Ok None) h = h
+  goes-operated at d (Err f) h = goes-ends _
 
   goes-resolves : (at : Position) (p : ℕ) (x : Resolved) → Goes (Statements.resolves {V = V} at p x) (Some 0)
-  goes-resolves at p (resolved.Module n) = goes-give n
-  goes-resolves at p resolved.NotFound = goes-ends _
-  goes-resolves at p (resolved.Fault f) = goes-ends _
+  goes-resolves at p (Ok (Some n)) = goes-give n
+  goes-resolves at p (Ok None) = goes-ends _
+  goes-resolves at p (Err f) = goes-ends _
 
   goes-path : (at : Position) (p : Option ℕ) → Goes (Statements.path_of {V = V} at p) (Some 0)
   goes-path at None = goes-ends _
@@ -248,20 +242,20 @@ module _ {S V : Type 0} (m : HostMeaning S V) (w : Setting) where
     goes-combined at (Some o) old v = goes-operated at _ (m.apply o old v) (goes-operated at _ (m.binary o old v) (goes-ends _))
 
     goes-iterable : (at : Position) (x : Item V) → Goes (iterable m resolver s at x) (Some 0)
-    goes-iterable at (item.Item v) = goes-give tt
-    goes-iterable at (item.Fault f) = goes-give tt
-    goes-iterable at item.End = goes-give tt
-    goes-iterable at item.NotIterable = goes-ends _
+    goes-iterable at (Ok (Some v)) = goes-give tt
+    goes-iterable at (Err (no_item.Fault f)) = goes-give tt
+    goes-iterable at (Ok None) = goes-give tt
+    goes-iterable at (Err no_item.NotIterable) = goes-ends _
 
     goes-turned : (b : Bool) → Goes (turned m resolver s b) (Some 0)
     goes-turned true = goes-give m.unit
     goes-turned false = goes-ends _
 
     for_ends : (here : Position) (c : Option Name) (i : ℕ) (x : Item V) → Ends (for_turn m resolver s here c i x)
-    for_ends here c i (item.Item v) = tt
-    for_ends here c i (item.Fault f) = refl
-    for_ends here c i item.End = refl
-    for_ends here c i item.NotIterable = refl
+    for_ends here c i (Ok (Some v)) = tt
+    for_ends here c i (Err (no_item.Fault f)) = refl
+    for_ends here c i (Ok None) = refl
+    for_ends here c i (Err no_item.NotIterable) = refl
 
     module _ (stmts : Option ℕ → Tree V) (empty : Option ℕ → Bool) (q : Option ℕ → Option ℕ)
         (hs : (p : Option ℕ) → Good (stmts p) (q p)) (hf : (p : Option ℕ) → empty p ≡ false → First (stmts p)) where

@@ -11,7 +11,7 @@ use Rattle.rule.specs.Tree.{deepest, within, contained, block_quote}
 use Rattle.rows.specs.Rows.{in_use}
 use Rattle.names.specs.Lists.{shortened}
 use Rattle.host.specs.Meaning.{HostMeaning, HostLaws, place_of}
-use Rattle.resolve.specs.declared.resolver.Resolved.{Resolved}
+use Rattle.resolve.specs.Answers.{Resolved}
 use Rattle.outcome.specs.declared.RunFault.{RunFault}
 use Rattle.outcome.specs.declared.RunFault.TheVariants.{NotAllowed, TooManyNames, WrongKind, NotIterable, NoSuchName, NoSuchIndex, ConstantTarget, NoOperator, TooManyModules, NoModule, Resolver, Thrown, Host}
 use Rattle.outcome.specs.declared.SessionRefusal.{SessionRefusal}

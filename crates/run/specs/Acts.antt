@@ -4,8 +4,7 @@ use Rattle.image.specs.declared.rows.Position.{Position}
 use Rattle.rows.specs.declared.place.Place.{Place}
 use Rattle.rows.specs.declared.variable.Access.{Access}
 use Rattle.rows.specs.declared.variable.VarRow.{VarRow}
-use Rattle.host.specs.declared.answers.Allowed.{Allowed}
-use Rattle.host.specs.declared.answers.Evaluated.{Evaluated}
+use Rattle.host.specs.Answers.{Allowed, Evaluated}
 use Rattle.outcome.specs.declared.Failure.{Failure}
 
 -- how a statement ends

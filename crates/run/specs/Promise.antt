@@ -6,7 +6,7 @@ use Rattle.rows.specs.declared.place.Place.{Place}
 use Rattle.rows.specs.declared.variable.VarRow.{VarRow}
 use Rattle.rows.specs.Rows.{in_use}
 use Rattle.host.specs.Meaning.{HostMeaning, place_of}
-use Rattle.resolve.specs.declared.resolver.Resolved.{Resolved}
+use Rattle.resolve.specs.Answers.{Resolved}
 use Rattle.outcome.specs.declared.Outcome.{Outcome}
 use Rattle.outcome.specs.Faults.{outcome_number}
 use Rattle.run.specs.Says.{After, appended_at, BlocksKeep}

@@ -10,7 +10,7 @@ use Rattle.rows.specs.Places.{text_of}
 use Rattle.rows.specs.Rows.{in_use, variable, blank_variable, blank_import}
 use Rattle.names.specs.Lists.{last_named, name_in, rewound, shortened}
 use Rattle.host.specs.Meaning.{HostMeaning, place_of}
-use Rattle.resolve.specs.declared.resolver.Resolved.{Resolved}
+use Rattle.resolve.specs.Answers.{Resolved}
 use Rattle.outcome.specs.declared.Outcome.{Outcome}
 use Rattle.outcome.specs.declared.Outcome.TheVariants as outcome
 use Rattle.outcome.specs.declared.SessionRefusal.{SessionRefusal}

@@ -1,5 +1,5 @@
 -- what each statement does: the order of its acts
-use Rattle.std.specs.Prelude.{ℕ, zero, suc, Bool, true, false, cond, not, ◌&&◌, List, [], ◌∷◌, Some, None, Option, ◌==◌}
+use Rattle.std.specs.Prelude.{ℕ, zero, suc, Bool, true, false, cond, not, ◌&&◌, List, [], ◌∷◌, Some, None, Option, Ok, Err, ◌==◌}
 use Rattle.image.specs.declared.rows.Expr.{Expr as ExprRow}
 use Rattle.image.specs.declared.rows.ExprKind.{ExprKind}
 use Rattle.image.specs.declared.rows.ExprKind.TheVariants.{Host as HostCode, Unit as UnitExpr, False, True}
@@ -17,19 +17,13 @@ use Rattle.rows.specs.declared.variable.Access.TheVariants.{ReadWrite, Constant}
 use Rattle.rows.specs.declared.variable.VarRow.{VarRow}
 use Rattle.rows.specs.Places.{no_place}
 use Rattle.rows.specs.Rows.{variable}
-use Rattle.host.specs.declared.answers.Allowed.{Allowed}
-use Rattle.host.specs.declared.answers.Allowed.TheVariants as allowed
-use Rattle.host.specs.declared.answers.Applied.{Applied}
-use Rattle.host.specs.declared.answers.Applied.TheVariants as applied
+use Rattle.host.specs.declared.answers.Halt.TheVariants as halt
+use Rattle.host.specs.declared.answers.NoItem.TheVariants as no_item
+use Rattle.host.specs.Answers.{Allowed, Applied, Evaluated, Item}
 use Rattle.host.specs.declared.answers.Caught.{Caught}
 use Rattle.host.specs.declared.answers.Caught.TheVariants as caught
-use Rattle.host.specs.declared.answers.Evaluated.{Evaluated}
-use Rattle.host.specs.declared.answers.Evaluated.TheVariants as evaluated
-use Rattle.host.specs.declared.answers.Item.{Item}
-use Rattle.host.specs.declared.answers.Item.TheVariants as item
 use Rattle.host.specs.Meaning.{HostMeaning}
-use Rattle.resolve.specs.declared.resolver.Resolved.{Resolved}
-use Rattle.resolve.specs.declared.resolver.Resolved.TheVariants as resolved
+use Rattle.resolve.specs.Answers.{Resolved}
 use Rattle.outcome.specs.declared.Failure.{Failure}
 use Rattle.outcome.specs.declared.RunFault.{RunFault}
 use Rattle.outcome.specs.declared.RunFault.TheVariants as fault
@@ -100,15 +94,15 @@ module _ {V : Type 0} where
 
   -- an answer of the host to evaluate, at the position of the expression
   abbrev pub answered : Position → Evaluated V → Doing V V
-  answered at (evaluated.Value v) = give v
-  answered at (evaluated.Fault f) = fails (fault.Host f.code f.catchable) (at_or f.at at)
-  answered at (evaluated.Exit v) = ends (exited at v)
+  answered at (Ok v) = give v
+  answered at (Err (halt.Fault f)) = fails (fault.Host f.code f.catchable) (at_or f.at at)
+  answered at (Err (halt.Exit v)) = ends (exited at v)
 
   -- an answer of the host to allow: its faults keep having no position
   abbrev pub permitted : Position → Place → Allowed → Doing V (Unit {0})
-  permitted at name allowed.Yes = give tt
-  permitted at name allowed.No = fails (fault.NotAllowed name) at
-  permitted at name (allowed.Fault f) = fails (fault.Host f.code f.catchable) f.at
+  permitted at name (Ok true) = give tt
+  permitted at name (Ok false) = fails (fault.NotAllowed name) at
+  permitted at name (Err f) = fails (fault.Host f.code f.catchable) f.at
 
   abbrev pub roomy : Position → Bool → Doing V (Unit {0})
   roomy at true = give tt
@@ -134,15 +128,15 @@ module _ {V : Type 0} where
 
   -- the answer of an operator function, and what comes where it finds nothing
   abbrev pub operated : Position → Doing V V → Applied V → Doing V V
-  operated at other (applied.Value v) = give v
-  operated at other applied.NotFound = other
-  operated at other (applied.Fault f) = fails (fault.Host f.code f.catchable) (at_or f.at at)
+  operated at other (Ok (Some v)) = give v
+  operated at other (Ok None) = other
+  operated at other (Err f) = fails (fault.Host f.code f.catchable) (at_or f.at at)
 
   -- an answer of the resolver, at the position of the path
   abbrev pub resolves : Position → ℕ → Resolved → Doing V ℕ
-  resolves at path (resolved.Module n) = give n
-  resolves at path resolved.NotFound = fails (fault.NoModule path) at
-  resolves at path (resolved.Fault f) = fails (fault.Resolver f.code f.catchable) (at_or f.at at)
+  resolves at path (Ok (Some n)) = give n
+  resolves at path (Ok None) = fails (fault.NoModule path) at
+  resolves at path (Err f) = fails (fault.Resolver f.code f.catchable) (at_or f.at at)
 
   abbrev pub path_of : Position → Option ℕ → Doing V ℕ
   path_of at None = fails fault.WrongKind at
@@ -244,10 +238,10 @@ module _ {S V : Type 0} (m : HostMeaning S V) (resolver : ℕ → Resolved) (s :
       operated at (operated at (fails (fault.NoOperator o) at) (m.binary o old v)) (m.apply o old v)
 
   abbrev pub iterable : Position → Item V → Doing V (Unit {0})
-  iterable at (item.Item v) = give tt
-  iterable at (item.Fault f) = give tt
-  iterable at item.End = give tt
-  iterable at item.NotIterable = fails fault.NotIterable at
+  iterable at (Ok (Some v)) = give tt
+  iterable at (Err (no_item.Fault f)) = give tt
+  iterable at (Ok None) = give tt
+  iterable at (Err no_item.NotIterable) = fails fault.NotIterable at
 
   -- the names of a For: its counter, if it has one, and its variable
   abbrev pub for_names : Name → Option Name → List (VarRow V)
@@ -265,10 +259,10 @@ module _ {S V : Type 0} (m : HostMeaning S V) (resolver : ℕ → Resolved) (s :
 
   -- a round by its item: the end gives unit, and a faulty item ends the loop with its fault
   abbrev pub for_turn : Position → Option Name → ℕ → Item V → Turn V
-  for_turn here c i (item.Item v) = sets (for_values c i v)
-  for_turn here c i (item.Fault f) = over (failed (record { fault = fault.Host f.code f.catchable; at = at_or f.at here }))
-  for_turn here c i item.End = over (broke m.unit)
-  for_turn here c i item.NotIterable = over (failed (record { fault = fault.NotIterable; at = here }))
+  for_turn here c i (Ok (Some v)) = sets (for_values c i v)
+  for_turn here c i (Err (no_item.Fault f)) = over (failed (record { fault = fault.Host f.code f.catchable; at = at_or f.at here }))
+  for_turn here c i (Ok None) = over (broke m.unit)
+  for_turn here c i (Err no_item.NotIterable) = over (failed (record { fault = fault.NotIterable; at = here }))
 
   -- a condition that holds goes on; one that does not ends the loop with unit
   abbrev pub turned : Bool → Doing V V

@@ -10,7 +10,7 @@ use Rattle.rows.specs.declared.variable.VarRow.{VarRow}
 use Rattle.rows.specs.Rows.{in_use, variable, blank_variable, blank_import}
 use Rattle.host.specs.declared.answers.Fault.{Fault}
 use Rattle.host.specs.Meaning.{HostMeaning}
-use Rattle.resolve.specs.declared.resolver.Resolved.{Resolved}
+use Rattle.resolve.specs.Answers.{Resolved}
 use Rattle.resolve.specs.declared.table.PathRow.{PathRow}
 use Rattle.resolve.specs.Pair.{unless_found}
 use Rattle.resolve.specs.Table.{first_of}

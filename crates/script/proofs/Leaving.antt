@@ -1,8 +1,7 @@
 -- what the two calls leave that may change something
 use Rattle.std.proofs.Common.{◌≡◌, ℕ, min, List, length, ap, ◌∙◌}
 use Rattle.rows.specs.Rows.{in_use}
-use Rattle.host.specs.declared.answers.Allowed.{Allowed}
-use Rattle.host.specs.declared.answers.Evaluated.{Evaluated}
+use Rattle.host.specs.Answers.{Allowed, Evaluated}
 use Rattle.host.specs.declared.view.Declaration.{Declaration}
 use Rattle.host.specs.declared.view.View.{View}
 use Rattle.host.specs.Meaning.{Leaves, seen, over}

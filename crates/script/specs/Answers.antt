@@ -2,10 +2,8 @@
 use Rattle.std.specs.Prelude.{ℕ, Bool, true, false, List, length, pos, ◌==◌}
 use Rattle.rows.specs.declared.variable.Access.{Access}
 use Rattle.rows.specs.declared.variable.Access.TheVariants as access
-use Rattle.host.specs.declared.answers.Allowed.{Allowed}
-use Rattle.host.specs.declared.answers.Allowed.TheVariants as allowed
-use Rattle.host.specs.declared.answers.Evaluated.{Evaluated}
-use Rattle.host.specs.declared.answers.Evaluated.TheVariants as evaluated
+use Rattle.host.specs.declared.answers.Halt.TheVariants as halt
+use Rattle.host.specs.Answers.{Allowed, Evaluated}
 use Rattle.host.specs.declared.view.Declaration.{Declaration}
 use Rattle.script.specs.declared.answer.AllowAnswer.{AllowAnswer}
 use Rattle.script.specs.declared.answer.AllowAnswer.TheVariants.{Yes, No, Fault as Refused, Present, Constant, Level}

@@ -1,7 +1,7 @@
 -- the items of ranges and of short sequences
 use Rattle.std.specs.Prelude.{ℕ, ◌*◌, ◌/◌, ◌%◌, true, false, cond, ◌&&◌, ℤ, pos, ◌+ℤ◌, ◌==◌, int_lt, nat_le, nat_lt}
 use Rattle.host.specs.declared.answers.Fault.{Fault}
-use Rattle.host.specs.declared.answers.Item.{Item}
+use Rattle.host.specs.Answers.{Item}
 use Rattle.host.specs.declared.answers.Item.TheVariants.{Item as One, Fault as Failed, End, NotIterable}
 use Rattle.script.specs.declared.value.ScriptValue.{ScriptValue}
 use Rattle.script.specs.declared.value.ScriptValue.TheVariants.{Unit as TheUnit, Truth, Number, Range, Seq}

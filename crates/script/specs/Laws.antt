@@ -2,7 +2,7 @@
 use Rattle.std.specs.Prelude.{◌≡◌, ℕ, ◌/◌, ◌%◌, ◌≤◌, Bool, true, false, cond, ◌&&◌, pos, ◌+ℤ◌, Some, ◌==◌, int_lt, nat_le, nat_lt, refl}
 use Rattle.std.proofs.Common.{arith}
 use Rattle.std.proofs.lemmas.Bool.{cond-true, le-leb}
-use Rattle.host.specs.declared.answers.Item.{Item}
+use Rattle.host.specs.Answers.{Item}
 use Rattle.host.specs.declared.answers.Item.TheVariants.{Item as One, Fault as Failed, End, NotIterable}
 use Rattle.host.specs.Meaning.{HostLaws, most_whole}
 use Rattle.script.specs.declared.value.ScriptValue.{ScriptValue}

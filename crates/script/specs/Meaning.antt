@@ -1,7 +1,6 @@
 -- the meaning of the scripted host
 use Rattle.std.specs.Prelude.{ℕ, ◌+◌, ◌-◌, ◌%◌, ◌^◌, cond, List, length, pos, ◌==◌, slice_index_or}
-use Rattle.host.specs.declared.answers.Allowed.{Allowed}
-use Rattle.host.specs.declared.answers.Evaluated.{Evaluated}
+use Rattle.host.specs.Answers.{Allowed, Evaluated}
 use Rattle.host.specs.declared.view.Declaration.{Declaration}
 use Rattle.host.specs.Answers.{number}
 use Rattle.host.specs.Meaning.{HostMeaning, Seen, Step, most_whole}

@@ -1,6 +1,6 @@
 -- the operators of the scripted host, by number
 use Rattle.std.specs.Prelude.{ℕ, Bool, true, false, cond, ◌||◌, ◌==◌}
-use Rattle.host.specs.declared.answers.Applied.{Applied}
+use Rattle.host.specs.Answers.{Applied}
 use Rattle.host.specs.declared.answers.Applied.TheVariants.{Value, NotFound, Fault as Failed}
 use Rattle.host.specs.declared.answers.Fault.{Fault}
 use Rattle.script.specs.declared.value.ScriptValue.{ScriptValue}

@@ -2,7 +2,7 @@
 use Rattle.std.specs.Prelude.{◌≡◌, ℕ, Bool, true, false, cond, List, Some, None, ◌≢◌, nat_le, refl}
 use Rattle.std.proofs.Common.{arith}
 use Rattle.std.proofs.lemmas.Bool.{le-leb, cond-true}
-use Rattle.host.specs.declared.answers.Item.TheVariants as item
+use Rattle.host.specs.declared.answers.NoItem.TheVariants as no_item
 use Rattle.host.specs.Meaning.{HostLaws, most_whole}
 use Rattle.host.proofs.Steps.{grown_none}
 use Rattle.site.specs.declared.expr.SiteExpr.{SiteExpr}

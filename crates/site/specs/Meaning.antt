@@ -1,12 +1,9 @@
 -- the site host's answers to every call
 use Rattle.std.specs.Prelude.{ℕ, true, cond, List, pos, Ok, Err, ◌==◌}
-use Rattle.host.specs.declared.answers.Allowed.{Allowed}
+use Rattle.host.specs.declared.answers.Halt.TheVariants as halt
+use Rattle.host.specs.Answers.{Allowed, Applied, Evaluated}
 use Rattle.host.specs.declared.answers.Allowed.TheVariants.{Yes}
-use Rattle.host.specs.declared.answers.Applied.{Applied}
-use Rattle.host.specs.declared.answers.Applied.TheVariants as applied
 use Rattle.host.specs.declared.answers.Caught.{Caught}
-use Rattle.host.specs.declared.answers.Evaluated.{Evaluated}
-use Rattle.host.specs.declared.answers.Evaluated.TheVariants as evaluated
 use Rattle.host.specs.declared.answers.Fault.{Fault}
 use Rattle.host.specs.declared.view.Declaration.{Declaration}
 use Rattle.host.specs.Answers.{number}

@@ -1,7 +1,7 @@
 -- what a value is asked for
 use Rattle.std.specs.Prelude.{ℕ, Bool, true, false, cond, ℤ, pos, negsuc, ◌+ℤ◌, Some, None, Option, int_lt, nat_le}
-use Rattle.host.specs.declared.answers.Item.{Item}
-use Rattle.host.specs.declared.answers.Item.TheVariants as item
+use Rattle.host.specs.declared.answers.NoItem.TheVariants as no_item
+use Rattle.host.specs.Answers.{Item}
 use Rattle.host.specs.Meaning.{most_whole}
 use Rattle.site.specs.declared.value.SiteValue.{SiteValue}
 use Rattle.site.specs.declared.value.SiteValue.TheVariants as value
