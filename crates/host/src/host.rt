@@ -5,6 +5,9 @@ use crate::answers::{Allowed, Applied, Caught, Evaluated, Item};
 use crate::view::{Declaration, View};
 use rows::{Unital, VarRow};
 
+/// The largest whole number that a host is asked to make.
+pub const MOST_WHOLE: u32 = 1_000_000_000;
+
 /// A host has a type of values and a state. Evaluate and allow may change the state and the variables; all other calls
 /// depend on their arguments alone and change nothing.
 pub trait Host {

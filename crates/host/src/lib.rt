@@ -6,5 +6,5 @@ mod host;
 mod view;
 
 pub use answers::{Allowed, Applied, Caught, Evaluated, Fault, Halt, Item, NoItem};
-pub use host::Host;
+pub use host::{Host, MOST_WHOLE};
 pub use view::{Declaration, View};

@@ -1,12 +1,9 @@
 -- the meaning of the list host
-use Rattle.std.specs.Prelude.{ℕ, ◌+◌, Bool, true, false, cond, List, length, nat_lt, slice_index_or}
+use Rattle.std.specs.Prelude.{ℕ, ◌+◌, Bool, false, not, cond, List, length, None, Ok, Err, nat_lt, slice_index_or}
 use Rattle.host.specs.declared.answers.Halt.TheVariants as halt
-use Rattle.host.specs.Answers.{Allowed, Evaluated}
-use Rattle.host.specs.declared.answers.Allowed.TheVariants.{Yes, No}
-use Rattle.host.specs.declared.answers.Applied.TheVariants.{NotFound}
 use Rattle.host.specs.declared.answers.Fault.{Fault}
-use Rattle.host.specs.declared.answers.Item.TheVariants.{NotIterable}
-use Rattle.host.specs.Answers.{number}
+use Rattle.host.specs.declared.answers.NoItem.TheVariants.{NotIterable}
+use Rattle.host.specs.Answers.{Allowed, Evaluated, number}
 use Rattle.host.specs.Meaning.{HostMeaning}
 use Rattle.list.specs.declared.list_host.ListEntry.{ListEntry}
 use Rattle.list.specs.declared.list_host.ListEntry.TheVariants.{Value, Exit}
@@ -15,8 +12,8 @@ use Rattle.list.specs.declared.value.ListValue.{ListValue}
 use Rattle.list.specs.Values.{valued, unit_is, of_truth, of_whole, truth_in, path_in, whole_in}
 
 abbrev pub entry_answer : ListEntry → Evaluated ListValue
-entry_answer (Value v) = evaluated.Value (valued v)
-entry_answer (Exit v) = evaluated.Exit (valued v)
+entry_answer (Value v) = Ok (valued v)
+entry_answer (Exit v) = Err (halt.Exit (valued v))
 
 -- the list is used up: fault 1, not catchable, no position
 abbrev pub used_up : Fault
@@ -24,7 +21,7 @@ used_up = record { code = 1; at = record { line = 0; column = 0 }; catchable = f
 
 -- what the next evaluation answers
 abbrev pub next_answer : List ListEntry → ℕ → Evaluated ListValue
-next_answer entries next = cond (nat_lt next (length entries)) (entry_answer (slice_index_or entries next (Value 0))) (evaluated.Fault used_up)
+next_answer entries next = cond (nat_lt next (length entries)) (entry_answer (slice_index_or entries next (Value 0))) (Err (halt.Fault used_up))
 
 -- one entry on; past the last it stays
 abbrev pub onward : List ListEntry → ℕ → ℕ
@@ -32,8 +29,7 @@ onward entries next = cond (nat_lt next (length entries)) (next + 1) next
 
 -- no, if the name is there already
 abbrev pub unless_present : Bool → Allowed
-unless_present true = No
-unless_present false = Yes
+unless_present present = Ok (not present)
 
 -- evaluate takes an entry, and no call changes a variable
 abbrev pub list_meaning : HostMeaning ListHost ListValue
@@ -44,8 +40,8 @@ list_meaning = record {
     answer = next_answer s.entries.now s.next;
   };
   allow = λ s declaration seen. record { state = s; rows = seen.rows; answer = unless_present declaration.present };
-  apply = λ op left right. NotFound;
-  binary = λ op left right. NotFound;
+  apply = λ op left right. Ok None;
+  binary = λ op left right. Ok None;
   unit = valued 0;
   make_truth = of_truth;
   make_whole = of_whole;
@@ -53,6 +49,6 @@ list_meaning = record {
   truth = truth_in;
   whole = whole_in;
   path = path_in;
-  item = λ v i. NotIterable;
+  item = λ v i. Err NotIterable;
   caught = λ fault. of_whole (number fault);
 }

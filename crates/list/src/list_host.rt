@@ -1,14 +1,16 @@
 ghost use Rattle.std.specs.Prelude.{◌≡◌};
-ghost use Rattle.list.specs.Meaning.{entry_answer, next_answer, onward, unless_present, list_meaning};
+ghost use Rattle.list.specs.Meaning.{entry_answer, next_answer, onward, list_meaning};
 ghost use Rattle.list.specs.Laws.{list_laws};
 
 use crate::value::ListValue;
-use host::{Allowed, Applied, Caught, Declaration, Evaluated, Fault, Host, Item, View};
+use host::{
+    Allowed, Applied, Caught, Declaration, Evaluated, Fault, Halt, Host, Item, NoItem, View,
+};
 use image::Position;
-use rows::VarRow;
+use rows::{Unital, VarRow};
 
 /// What one evaluation answers: a value, or the end of the run with a value.
-#[derive(Clone, Copy)]
+#[derive(Clone, Copy, Debug, PartialEq, Eq)]
 pub enum ListEntry {
     Value(u32),
     Exit(u32),
@@ -24,7 +26,7 @@ pub struct ListHost<'a> {
 /// The fault of an evaluation behind the last entry.
 const USED_UP: Fault = Fault {
     code: 1,
-    at: Position { line: 0, column: 0 },
+    at: Position::NONE,
     catchable: false,
 };
 
@@ -32,18 +34,17 @@ fn answer_of(entry: ListEntry) -> Evaluated<ListValue>
     ensures { result ≡ entry_answer entry }
 {
     match entry {
-        ListEntry::Value(number) => Evaluated::Value(ListValue(number)),
-        ListEntry::Exit(number) => Evaluated::Exit(ListValue(number)),
+        ListEntry::Value(number) => Ok(ListValue(number)),
+        ListEntry::Exit(number) => Err(Halt::Exit(ListValue(number))),
     }
 }
 
 fn next_answer(entries: &[ListEntry], next: usize) -> Evaluated<ListValue>
     ensures { result ≡ next_answer entries.now next }
 {
-    if next < entries.len() {
-        answer_of(entries[next])
-    } else {
-        Evaluated::Fault(USED_UP)
+    match entries.get(next) {
+        Some(entry) => answer_of(*entry),
+        None => Err(Halt::Fault(USED_UP)),
     }
 }
 
@@ -52,13 +53,6 @@ fn place_after(entries: &[ListEntry], next: usize) -> usize
     ensures { result ≡ onward entries.now next }
 {
     if next < entries.len() { next + 1 } else { next }
-}
-
-/// A name that is there already is refused.
-fn unless_present(present: bool) -> Allowed
-    ensures { result ≡ unless_present present }
-{
-    if present { Allowed::No } else { Allowed::Yes }
 }
 
 impl<'a> Host for ListHost<'a> {
@@ -80,6 +74,7 @@ impl<'a> Host for ListHost<'a> {
         (used.min(vars.len()), answer)
     }
 
+    /// A name that is there already is refused.
     fn allow(
         &mut self,
         declaration: Declaration,
@@ -87,23 +82,23 @@ impl<'a> Host for ListHost<'a> {
         used: usize,
         _view: View<'_>,
     ) -> (usize, Allowed) {
-        (used.min(vars.len()), unless_present(declaration.present))
+        (used.min(vars.len()), Ok(!declaration.present))
     }
 
     fn apply(&self, _op: u16, _left: ListValue, _right: ListValue) -> Applied<ListValue> {
-        Applied::NotFound
+        Ok(None)
     }
 
     fn binary(&self, _op: u16, _left: ListValue, _right: ListValue) -> Applied<ListValue> {
-        Applied::NotFound
+        Ok(None)
     }
 
     fn make_unit(&self) -> ListValue {
-        ListValue(0)
+        ListValue::unit()
     }
 
     fn make_truth(&self, truth: bool) -> ListValue {
-        ListValue::of_truth(truth)
+        ListValue::from(truth)
     }
 
     fn make_whole(&self, number: u32) -> ListValue {
@@ -111,7 +106,7 @@ impl<'a> Host for ListHost<'a> {
     }
 
     fn is_unit(&self, value: ListValue) -> bool {
-        value.unit_is()
+        value == ListValue::unit()
     }
 
     fn truth(&self, value: ListValue) -> Option<bool> {
@@ -127,10 +122,10 @@ impl<'a> Host for ListHost<'a> {
     }
 
     fn item(&self, _value: ListValue, _i: u32) -> Item<ListValue> {
-        Item::NotIterable
+        Err(NoItem::NotIterable)
     }
 
     fn caught(&self, fault: Caught) -> ListValue {
-        ListValue::of_whole(fault.number() as u32)
+        ListValue::of_whole(u32::from(fault.number()))
     }
 }

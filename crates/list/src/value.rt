@@ -1,14 +1,12 @@
 ghost use Rattle.std.specs.Prelude.{◌≡◌};
-ghost use Rattle.list.specs.Values.{valued, truth_in, whole_in, path_in, of_truth, of_whole, unit_is};
+ghost use Rattle.list.specs.Values.{valued, truth_in, whole_in, path_in, of_truth, of_whole};
 
+use host::MOST_WHOLE;
 use rows::Unital;
 
 /// A value: 0 is unit, 1 false, 2 true, and n from 3 on the number n - 3.
-#[derive(Clone, Copy)]
+#[derive(Clone, Copy, Debug, PartialEq, Eq)]
 pub struct ListValue(pub u32);
-
-/// The largest whole number that a value is read as.
-const MOST_WHOLE: u32 = 1_000_000_000;
 
 impl Unital for ListValue {
     ghost unit = { valued 0 };
@@ -18,24 +16,20 @@ impl Unital for ListValue {
     }
 }
 
-impl ListValue {
-    pub(crate) fn of_truth(truth: bool) -> ListValue
-        ensures { result ≡ of_truth truth }
-    {
+impl From<bool> for ListValue {
+    ghost from_gives = { λ truth v. v ≡ of_truth truth };
+
+    fn from(truth: bool) -> ListValue {
         ListValue(if truth { 2 } else { 1 })
     }
+}
 
+impl ListValue {
     /// The value of a number; a number that has none is the largest value.
     pub(crate) fn of_whole(number: u32) -> ListValue
         ensures { result ≡ of_whole number }
     {
         ListValue(number.saturating_add(3))
-    }
-
-    pub(crate) fn unit_is(self) -> bool
-        ensures { result ≡ unit_is self }
-    {
-        self.0 == 0
     }
 
     pub(crate) fn truth_in(self) -> Option<bool>
@@ -51,16 +45,12 @@ impl ListValue {
     pub(crate) fn path_in(self) -> Option<u32>
         ensures { result ≡ path_in self }
     {
-        if self.0 >= 3 { Some(self.0 - 3) } else { None }
+        self.0.checked_sub(3)
     }
 
     pub(crate) fn whole_in(self) -> Option<u32>
         ensures { result ≡ whole_in self }
     {
-        if self.0 >= 3 && self.0 - 3 <= MOST_WHOLE {
-            Some(self.0 - 3)
-        } else {
-            None
-        }
+        self.path_in().filter(|number| *number <= MOST_WHOLE)
     }
 }

@@ -5,13 +5,11 @@ use Rattle.host.specs.Answers.{Allowed, Evaluated}
 use Rattle.host.specs.declared.view.Declaration.{Declaration}
 use Rattle.host.specs.declared.view.View.{View}
 use Rattle.host.specs.Meaning.{Leaves, seen, over}
-use Rattle.script.specs.declared.script_host.AllowEntry.{AllowEntry}
-use Rattle.script.specs.declared.script_host.EvalEntry.{EvalEntry}
 use Rattle.script.specs.declared.script_host.ScriptHost.{ScriptHost}
 use Rattle.script.specs.declared.value.ScriptValue.{ScriptValue}
 use Rattle.script.specs.Answers.{answer_in, eval_answer, allow_answer}
 use Rattle.script.specs.Effects.{Row, both_done}
-use Rattle.script.specs.Meaning.{eval_entry, allow_entry, script_meaning}
+use Rattle.script.specs.Meaning.{EvalEntry, AllowEntry, eval_entry, allow_entry, script_meaning}
 use Rattle.script.proofs.Tables.{answer-over, fits_both}
 
 module _ (s s' : ScriptHost) (vars : List Row) (used : ℕ) (view : View) (vars' : List Row) (used' : ℕ) where

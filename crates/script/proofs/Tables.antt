@@ -9,7 +9,7 @@ use Rattle.host.proofs.Steps.{length_in_use, over_none}
 use Rattle.script.specs.declared.answer.EvalAnswer.{EvalAnswer}
 use Rattle.script.specs.declared.answer.EvalAnswer.TheVariants.{Value, Fault, Exit, Code, Mark, Names, Row as RowBack}
 use Rattle.script.specs.declared.effect.Effect.{Effect}
-use Rattle.script.specs.declared.effect.Effect.TheVariants.{None as Nothing, Append, Set}
+use Rattle.script.specs.declared.effect.Effect.TheVariants.{Append, Set}
 use Rattle.script.specs.declared.value.ScriptValue.{ScriptValue}
 use Rattle.script.specs.Answers.{answer_in, eval_answer}
 use Rattle.script.specs.Effects.{Row, no_row, back_of, changed, value_in, done, both_done, room_for, used_after, table_after}
@@ -72,29 +72,29 @@ module _ (limit : ℕ) (rows vars : List Row) (le : length rows ≤ length vars)
   below e = omega (arith, ltb-true _ _ e)
 
   -- an effect on the table is the effect on the rows in use
-  table-after : (e : Effect) → table_after limit (over rows vars) (length rows) e ≡ over (done (min limit (length vars)) rows e) vars
-  table-after Nothing = refl
-  table-after (Append p v) =
+  table-after : (e : Option Effect) → table_after limit (over rows vars) (length rows) e ≡ over (done (min limit (length vars)) rows e) vars
+  table-after None = refl
+  table-after (Some (Append p v)) =
       let row = variable p ReadWrite v in
       ap (λ t. cond t (set (over rows vars) (length rows) row) (over rows vars)) same-room
       ∙ append-table (ltb (length rows) (min limit (length vars))) rows vars row below
-  table-after (Set k v) = set_table (ltb 0 k && leb k (length rows)) rows vars k v le (back_in_use k (length rows))
+  table-after (Some (Set k v)) = set_table (ltb 0 k && leb k (length rows)) rows vars k v le (back_in_use k (length rows))
 
-  used-after : (e : Effect) → used_after limit (over rows vars) (length rows) e ≡ length (done (min limit (length vars)) rows e)
-  used-after Nothing = refl
-  used-after (Append p v) =
+  used-after : (e : Option Effect) → used_after limit (over rows vars) (length rows) e ≡ length (done (min limit (length vars)) rows e)
+  used-after None = refl
+  used-after (Some (Append p v)) =
       ap (λ t. cond t (length rows + 1) (length rows)) same-room ∙ append-used (ltb (length rows) (min limit (length vars))) rows (variable p ReadWrite v)
-  used-after (Set k v) = sym (length-changed rows (back_of (length rows) k) v)
+  used-after (Some (Set k v)) = sym (length-changed rows (back_of (length rows) k) v)
 
 fits_if : (t : Bool) (rows vars : List Row) (row : Row) → length rows ≤ length vars → (t ≡ true → length rows < length vars) →
     length (cond t (rows ++ (row ∷ [])) rows) ≤ length vars
 fits_if true rows vars row le lt = omega (arith, length_push rows row, lt refl)
 fits_if false rows vars row le lt = le
 
-fits_after : (limit : ℕ) (rows vars : List Row) (e : Effect) → length rows ≤ length vars → length (done (min limit (length vars)) rows e) ≤ length vars
-fits_after limit rows vars Nothing le = le
-fits_after limit rows vars (Append p v) le = fits_if (ltb (length rows) (min limit (length vars))) rows vars (variable p ReadWrite v) le (below limit rows vars le)
-fits_after limit rows vars (Set k v) le = omega (arith, length-changed rows (back_of (length rows) k) v)
+fits_after : (limit : ℕ) (rows vars : List Row) (e : Option Effect) → length rows ≤ length vars → length (done (min limit (length vars)) rows e) ≤ length vars
+fits_after limit rows vars None le = le
+fits_after limit rows vars (Some (Append p v)) le = fits_if (ltb (length rows) (min limit (length vars))) rows vars (variable p ReadWrite v) le (below limit rows vars le)
+fits_after limit rows vars (Some (Set k v)) le = omega (arith, length-changed rows (back_of (length rows) k) v)
 
 -- a table and how many of its rows are in use, where these rows are in use over a table as lent
 pub record Holds (rows vars vars' : List Row) (used' : ℕ) : Type 0 where
@@ -109,7 +109,7 @@ holds-none vars used used' e = record {
   fits = omega (arith, length_in_use vars used);
 }
 
-pub holds_more : (limit : ℕ) (rows vars vars' vars'' : List Row) (used' used'' : ℕ) (e : Effect) → Holds rows vars vars' used' →
+pub holds_more : (limit : ℕ) (rows vars vars' vars'' : List Row) (used' used'' : ℕ) (e : Option Effect) → Holds rows vars vars' used' →
     used'' ≡ used_after limit vars' used' e → vars'' ≡ table_after limit vars' used' e → Holds (done (min limit (length vars)) rows e) vars vars'' used''
 holds_more limit rows vars vars' vars'' used' used'' e h u t = record {
   used = u ∙ ap (λ x. used_after limit x used' e) h.table ∙ ap (λ n. used_after limit (over rows vars) n e) h.used ∙ used-after limit rows vars h.fits e;
@@ -139,7 +139,7 @@ answer-over code mark rows vars (RowBack k) le =
     ap (λ v. answer_in code mark rows (length rows) (Value v)) (value-at (ltb 0 k && leb k (length rows)) rows vars k le (back_in_use k (length rows)))
 
 -- two effects leave no more rows in use than the table has
-pub fits_both : (limit : ℕ) (vars : List Row) (used : ℕ) (first second : Effect) → length (both_done (min limit (length vars)) (in_use vars used) first second) ≤ length vars
+pub fits_both : (limit : ℕ) (vars : List Row) (used : ℕ) (first second : Option Effect) → length (both_done (min limit (length vars)) (in_use vars used) first second) ≤ length vars
 fits_both limit vars used first second =
     fits_after limit (done (min limit (length vars)) (in_use vars used) first) vars second
     (fits_after limit (in_use vars used) vars first (omega (arith, length_in_use vars used)))

@@ -1,5 +1,5 @@
 -- what the entries of a script answer
-use Rattle.std.specs.Prelude.{ℕ, Bool, true, false, List, length, pos, ◌==◌}
+use Rattle.std.specs.Prelude.{ℕ, Bool, true, false, List, length, pos, Ok, Err, ◌==◌}
 use Rattle.rows.specs.declared.variable.Access.{Access}
 use Rattle.rows.specs.declared.variable.Access.TheVariants as access
 use Rattle.host.specs.declared.answers.Halt.TheVariants as halt
@@ -16,21 +16,20 @@ use Rattle.script.specs.Values.{count_of}
 
 -- the answer of an evaluation for a code, under a mark, where so many names are in use of these rows
 abbrev pub answer_in : ℕ → Bool → List Row → ℕ → EvalAnswer → Evaluated ScriptValue
-answer_in code mark rows names (Value v) = evaluated.Value v
-answer_in code mark rows names (Failed f) = evaluated.Fault f
-answer_in code mark rows names (Exit v) = evaluated.Exit v
-answer_in code mark rows names Code = evaluated.Value (Number (pos code))
-answer_in code mark rows names Mark = evaluated.Value (Truth mark)
-answer_in code mark rows names Names = evaluated.Value (count_of names)
-answer_in code mark rows names (RowBack k) = evaluated.Value (value_in rows (back_of names k))
+answer_in code mark rows names (Value v) = Ok v
+answer_in code mark rows names (Failed f) = Err (halt.Fault f)
+answer_in code mark rows names (Exit v) = Err (halt.Exit v)
+answer_in code mark rows names Code = Ok (Number (pos code))
+answer_in code mark rows names Mark = Ok (Truth mark)
+answer_in code mark rows names Names = Ok (count_of names)
+answer_in code mark rows names (RowBack k) = Ok (value_in rows (back_of names k))
 
 -- the same where all of the rows are in use
 abbrev pub eval_answer : ℕ → Bool → List Row → EvalAnswer → Evaluated ScriptValue
 eval_answer code mark rows answer = answer_in code mark rows (length rows) answer
 
 abbrev pub yes_if : Bool → Allowed
-yes_if true = allowed.Yes
-yes_if false = allowed.No
+yes_if b = Ok b
 
 abbrev pub constant_is : Access → Bool
 constant_is access.ReadWrite = false
@@ -38,9 +37,9 @@ constant_is access.Constant = true
 
 -- the answer to a declaration
 abbrev pub allow_answer : Declaration → AllowAnswer → Allowed
-allow_answer d Yes = allowed.Yes
-allow_answer d No = allowed.No
-allow_answer d (Refused f) = allowed.Fault f
+allow_answer d Yes = Ok true
+allow_answer d No = Ok false
+allow_answer d (Refused f) = Err f
 allow_answer d Present = yes_if d.present
 allow_answer d Constant = yes_if (constant_is d.access)
 allow_answer d (Level n) = yes_if (d.level == n)

@@ -4,7 +4,7 @@ use Rattle.rows.specs.declared.variable.Access.TheVariants.{ReadWrite}
 use Rattle.rows.specs.declared.variable.VarRow.{VarRow}
 use Rattle.rows.specs.Rows.{variable, revalued, blank_variable}
 use Rattle.script.specs.declared.effect.Effect.{Effect}
-use Rattle.script.specs.declared.effect.Effect.TheVariants.{None as Nothing, Append, Set}
+use Rattle.script.specs.declared.effect.Effect.TheVariants.{Append, Set}
 use Rattle.script.specs.declared.value.ScriptValue.{ScriptValue}
 use Rattle.script.specs.declared.value.ScriptValue.TheVariants.{Unit as TheUnit}
 
@@ -30,13 +30,13 @@ value_in rows None = TheUnit
 value_in rows (Some i) = cond (nat_lt i (length rows)) (get_or rows i no_row).value TheUnit
 
 -- the rows in use after an effect: append while there are fewer than the limit, set k back from the last
-abbrev pub done : ℕ → List Row → Effect → List Row
-done limit rows Nothing = rows
-done limit rows (Append p v) = cond (nat_lt (length rows) limit) (rows ++ (variable p ReadWrite v ∷ [])) rows
-done limit rows (Set k v) = changed rows (back_of (length rows) k) v
+abbrev pub done : ℕ → List Row → Option Effect → List Row
+done limit rows None = rows
+done limit rows (Some (Append p v)) = cond (nat_lt (length rows) limit) (rows ++ (variable p ReadWrite v ∷ [])) rows
+done limit rows (Some (Set k v)) = changed rows (back_of (length rows) k) v
 
 -- two effects in order
-abbrev pub both_done : ℕ → List Row → Effect → Effect → List Row
+abbrev pub both_done : ℕ → List Row → Option Effect → Option Effect → List Row
 both_done limit rows first second = done limit (done limit rows first) second
 
 -- the same on a table of which so many rows are in use: whether there is room for one more, how many are in use after
@@ -44,12 +44,12 @@ both_done limit rows first second = done limit (done limit rows first) second
 abbrev pub room_for : ℕ → List Row → ℕ → Bool
 room_for limit vars used = nat_lt used (min limit (length vars))
 
-abbrev pub used_after : ℕ → List Row → ℕ → Effect → ℕ
-used_after limit vars used Nothing = used
-used_after limit vars used (Append p v) = cond (room_for limit vars used) (used + 1) used
-used_after limit vars used (Set k v) = used
+abbrev pub used_after : ℕ → List Row → ℕ → Option Effect → ℕ
+used_after limit vars used None = used
+used_after limit vars used (Some (Append p v)) = cond (room_for limit vars used) (used + 1) used
+used_after limit vars used (Some (Set k v)) = used
 
-abbrev pub table_after : ℕ → List Row → ℕ → Effect → List Row
-table_after limit vars used Nothing = vars
-table_after limit vars used (Append p v) = cond (room_for limit vars used) (slice_set vars used (variable p ReadWrite v)) vars
-table_after limit vars used (Set k v) = changed vars (back_of used k) v
+abbrev pub table_after : ℕ → List Row → ℕ → Option Effect → List Row
+table_after limit vars used None = vars
+table_after limit vars used (Some (Append p v)) = cond (room_for limit vars used) (slice_set vars used (variable p ReadWrite v)) vars
+table_after limit vars used (Some (Set k v)) = changed vars (back_of used k) v

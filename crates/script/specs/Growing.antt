@@ -10,7 +10,7 @@ use Rattle.rows.specs.Rows.{variable, revalued}
 use Rattle.host.specs.Meaning.{Grown, place_of, access_of}
 use Rattle.host.proofs.Steps.{grown_none}
 use Rattle.script.specs.declared.effect.Effect.{Effect}
-use Rattle.script.specs.declared.effect.Effect.TheVariants.{None as Nothing, Append, Set}
+use Rattle.script.specs.declared.effect.Effect.TheVariants.{Append, Set}
 use Rattle.script.specs.declared.value.ScriptValue.{ScriptValue}
 use Rattle.script.specs.Effects.{Row, back_of, changed, done, both_done, no_row}
 
@@ -87,12 +87,12 @@ grown_changed limit rows None v = grown_none limit rows
 grown_changed limit rows (Some i) v =
     grown_if (nat_lt i (length rows)) limit rows _ rows (λ e. grown_set limit rows i no_row v) (grown_none limit rows)
 
-grown_done : (limit : ℕ) (rows : List Row) (e : Effect) → Grown limit rows (done limit rows e)
-grown_done limit rows Nothing = grown_none limit rows
-grown_done limit rows (Append p v) =
+grown_done : (limit : ℕ) (rows : List Row) (e : Option Effect) → Grown limit rows (done limit rows e)
+grown_done limit rows None = grown_none limit rows
+grown_done limit rows (Some (Append p v)) =
     grown_if (nat_lt (length rows) limit) limit rows _ rows (λ e. grown_append limit rows p v (ltb-true _ _ e)) (grown_none limit rows)
-grown_done limit rows (Set k v) = grown_changed limit rows (back_of (length rows) k) v
+grown_done limit rows (Some (Set k v)) = grown_changed limit rows (back_of (length rows) k) v
 
-pub grown_both : (limit : ℕ) (rows : List Row) (first second : Effect) → Grown limit rows (both_done limit rows first second)
+pub grown_both : (limit : ℕ) (rows : List Row) (first second : Option Effect) → Grown limit rows (both_done limit rows first second)
 grown_both limit rows first second =
     grown_on limit rows (done limit rows first) _ (grown_done limit rows first) (grown_done limit (done limit rows first) second)

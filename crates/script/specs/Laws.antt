@@ -1,9 +1,9 @@
 -- the scripted host keeps the rules of hosts
-use Rattle.std.specs.Prelude.{◌≡◌, ℕ, ◌/◌, ◌%◌, ◌≤◌, Bool, true, false, cond, ◌&&◌, pos, ◌+ℤ◌, Some, ◌==◌, int_lt, nat_le, nat_lt, refl}
+use Rattle.std.specs.Prelude.{◌≡◌, ℕ, ◌/◌, ◌%◌, ◌≤◌, Bool, true, false, cond, ◌&&◌, pos, ◌+ℤ◌, Some, None, Ok, Err, ◌==◌, int_lt, nat_le, nat_lt, refl}
 use Rattle.std.proofs.Common.{arith}
 use Rattle.std.proofs.lemmas.Bool.{cond-true, le-leb}
 use Rattle.host.specs.Answers.{Item}
-use Rattle.host.specs.declared.answers.Item.TheVariants.{Item as One, Fault as Failed, End, NotIterable}
+use Rattle.host.specs.declared.answers.NoItem.TheVariants.{Fault as Failed, NotIterable}
 use Rattle.host.specs.Meaning.{HostLaws, most_whole}
 use Rattle.script.specs.declared.value.ScriptValue.{ScriptValue}
 use Rattle.script.specs.declared.value.ScriptValue.TheVariants.{Unit as TheUnit, Truth, Number, Range, Seq}
@@ -17,26 +17,26 @@ whole_back n le = cond-true _ _ _ (le-leb _ _ le)
 
 -- an answer other than not iterable
 abbrev Iterates : Item ScriptValue → Type 0
-Iterates x = x ≡ NotIterable → ⊥
+Iterates x = x ≡ Err NotIterable → ⊥
 
 neither : (t : Bool) (x y : Item ScriptValue) → Iterates x → Iterates y → Iterates (cond t x y)
 neither true x y nx ny e = nx e
 neither false x y nx ny e = ny e
 
-not_one : (v : ScriptValue) → Iterates (One v)
+not_one : (v : ScriptValue) → Iterates (Ok (Some v))
 not_one v e = let z : ◌≡◌ {A = ℕ} 0 1 = cc in omega arith
 
-not_failed : (k : ℕ) → Iterates (Failed (fault_of_kind k))
+not_failed : (k : ℕ) → Iterates (Err (Failed (fault_of_kind k)))
 not_failed k e = let z : ◌≡◌ {A = ℕ} 0 1 = cc in omega arith
 
-not_end : Iterates End
+not_end : Iterates (Ok None)
 not_end e = let z : ◌≡◌ {A = ℕ} 0 1 = cc in omega arith
 
-seq-iterable : (t : Bool) (x y : Item ScriptValue) → Iterates x → cond t x NotIterable ≡ NotIterable → cond t y NotIterable ≡ NotIterable
+seq-iterable : (t : Bool) (x y : Item ScriptValue) → Iterates x → cond t x (Err NotIterable) ≡ Err NotIterable → cond t y (Err NotIterable) ≡ Err NotIterable
 seq-iterable true x y nx e = absurd (nx e)
 seq-iterable false x y nx e = refl
 
-iterable : (v : ScriptValue) (i j : ℕ) → item_of v i ≡ NotIterable → item_of v j ≡ NotIterable
+iterable : (v : ScriptValue) (i j : ℕ) → item_of v i ≡ Err NotIterable → item_of v j ≡ Err NotIterable
 iterable TheUnit i j e = refl
 iterable (Truth b) i j e = refl
 iterable (Number n) i j e = refl

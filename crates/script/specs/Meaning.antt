@@ -1,14 +1,13 @@
 -- the meaning of the scripted host
-use Rattle.std.specs.Prelude.{ℕ, ◌+◌, ◌-◌, ◌%◌, ◌^◌, cond, List, length, pos, ◌==◌, slice_index_or}
-use Rattle.host.specs.Answers.{Allowed, Evaluated}
+use Rattle.std.specs.Prelude.{ℕ, ◌+◌, ◌-◌, ◌%◌, ◌^◌, cond, List, length, pos, None, ◌==◌, slice_index_or}
 use Rattle.host.specs.declared.view.Declaration.{Declaration}
-use Rattle.host.specs.Answers.{number}
+use Rattle.host.specs.Answers.{Allowed, Evaluated, number}
 use Rattle.host.specs.Meaning.{HostMeaning, Seen, Step, most_whole}
+use Rattle.script.specs.declared.answer.AllowAnswer.{AllowAnswer}
 use Rattle.script.specs.declared.answer.AllowAnswer.TheVariants.{Yes}
+use Rattle.script.specs.declared.answer.EvalAnswer.{EvalAnswer}
 use Rattle.script.specs.declared.answer.EvalAnswer.TheVariants.{Value}
-use Rattle.script.specs.declared.effect.Effect.TheVariants.{None as Nothing}
-use Rattle.script.specs.declared.script_host.AllowEntry.{AllowEntry}
-use Rattle.script.specs.declared.script_host.EvalEntry.{EvalEntry}
+use Rattle.script.specs.declared.entry.Entry.{Entry}
 use Rattle.script.specs.declared.script_host.ScriptHost.{ScriptHost}
 use Rattle.script.specs.declared.value.ScriptValue.{ScriptValue}
 use Rattle.script.specs.declared.value.ScriptValue.TheVariants.{Unit as TheUnit, Truth, Number}
@@ -18,19 +17,29 @@ use Rattle.script.specs.Items.{item_of}
 use Rattle.script.specs.Operators.{changing, joining}
 use Rattle.script.specs.Values.{unit_is, truth_in, number_up_to}
 
+-- an entry for either call, as the source's aliases have them
+abbrev pub EvalEntry : Type 0
+EvalEntry = Entry EvalAnswer
+
+abbrev pub AllowEntry : Type 0
+AllowEntry = Entry AllowAnswer
+
 -- with no entries, nothing is done, and the answer is unit, or yes
 abbrev pub no_eval : EvalEntry
-no_eval = record { first = Nothing; second = Nothing; answer = Value TheUnit }
+no_eval = record { first = None; second = None; answer = Value TheUnit }
 
 abbrev pub no_allow : AllowEntry
-no_allow = record { first = Nothing; second = Nothing; answer = Yes }
+no_allow = record { first = None; second = None; answer = Yes }
 
--- the entry that is due, by how many came before, modulo how many there are
+-- the entry that is due, by how many came before, modulo how many there are; another where there are none
+abbrev pub entry_at : {A : Type 0} → List (Entry A) → ℕ → Entry A → Entry A
+entry_at entries count other = cond (length entries == 0) other (slice_index_or entries (count % length entries) other)
+
 abbrev pub eval_entry : List EvalEntry → ℕ → EvalEntry
-eval_entry evals count = cond (length evals == 0) no_eval (slice_index_or evals (count % length evals) no_eval)
+eval_entry evals count = entry_at evals count no_eval
 
 abbrev pub allow_entry : List AllowEntry → ℕ → AllowEntry
-allow_entry allows count = cond (length allows == 0) no_allow (slice_index_or allows (count % length allows) no_allow)
+allow_entry allows count = entry_at allows count no_allow
 
 -- one more, counted modulo n
 abbrev pub turned : ℕ → ℕ → ℕ

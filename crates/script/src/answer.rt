@@ -1,9 +1,9 @@
 ghost use Rattle.std.specs.Prelude.{◌≡◌};
-ghost use Rattle.script.specs.Answers.{answer_in, allow_answer, constant_is, yes_if};
+ghost use Rattle.script.specs.Answers.{answer_in, allow_answer};
 
 use crate::effect::{back_of, value_in};
 use crate::value::{ScriptValue, count_of};
-use host::{Allowed, Declaration, Evaluated, Fault};
+use host::{Allowed, Declaration, Evaluated, Fault, Halt};
 use rows::{Access, VarRow};
 
 /// What an entry of a script answers to an evaluation.
@@ -46,28 +46,13 @@ pub(crate) fn eval_answer(
     ensures { result ≡ answer_in code mark vars.now used answer }
 {
     match answer {
-        EvalAnswer::Value(value) => Evaluated::Value(value),
-        EvalAnswer::Fault(fault) => Evaluated::Fault(fault),
-        EvalAnswer::Exit(value) => Evaluated::Exit(value),
-        EvalAnswer::Code => Evaluated::Value(ScriptValue::Number(code as i64)),
-        EvalAnswer::Mark => Evaluated::Value(ScriptValue::Truth(mark)),
-        EvalAnswer::Names => Evaluated::Value(count_of(used)),
-        EvalAnswer::Row(k) => Evaluated::Value(value_in(vars, back_of(used, k))),
-    }
-}
-
-fn yes_if(holds: bool) -> Allowed
-    ensures { result ≡ yes_if holds }
-{
-    if holds { Allowed::Yes } else { Allowed::No }
-}
-
-fn constant_is(access: Access) -> bool
-    ensures { result ≡ constant_is access }
-{
-    match access {
-        Access::ReadWrite => false,
-        Access::Constant => true,
+        EvalAnswer::Value(value) => Ok(value),
+        EvalAnswer::Fault(fault) => Err(Halt::Fault(fault)),
+        EvalAnswer::Exit(value) => Err(Halt::Exit(value)),
+        EvalAnswer::Code => Ok(ScriptValue::Number(i64::from(code))),
+        EvalAnswer::Mark => Ok(ScriptValue::Truth(mark)),
+        EvalAnswer::Names => Ok(count_of(used)),
+        EvalAnswer::Row(k) => Ok(value_in(vars, back_of(used, k))),
     }
 }
 
@@ -75,11 +60,11 @@ pub(crate) fn allow_answer(answer: AllowAnswer, declaration: Declaration) -> All
     ensures { result ≡ allow_answer declaration answer }
 {
     match answer {
-        AllowAnswer::Yes => Allowed::Yes,
-        AllowAnswer::No => Allowed::No,
-        AllowAnswer::Fault(fault) => Allowed::Fault(fault),
-        AllowAnswer::Present => yes_if(declaration.present),
-        AllowAnswer::Constant => yes_if(constant_is(declaration.access)),
-        AllowAnswer::Level(level) => yes_if(declaration.level == level),
+        AllowAnswer::Yes => Ok(true),
+        AllowAnswer::No => Ok(false),
+        AllowAnswer::Fault(fault) => Err(fault),
+        AllowAnswer::Present => Ok(declaration.present),
+        AllowAnswer::Constant => Ok(declaration.access == Access::Constant),
+        AllowAnswer::Level(level) => Ok(declaration.level == level),
     }
 }

@@ -3,19 +3,15 @@ ghost use Rattle.script.specs.Items.{fault_of_kind, range_item, seq_item, item_o
 
 use crate::operator::fault_at;
 use crate::value::ScriptValue;
-use host::{Fault, Item};
+use host::{Fault, Item, NoItem};
 
 /// Item `i` of the numbers from `from` up to `to`.
 fn range_item(from: i64, to: i64, i: u32) -> Item<ScriptValue>
     ensures { result ≡ range_item from to i }
 {
-    // The sum is formed where it always fits.
-    let n = from as i128 + i as i128;
-    if n < to as i128 {
-        Item::Item(ScriptValue::Number(n as i64))
-    } else {
-        Item::End
-    }
+    // A number that 64 bits do not hold is past every range's end.
+    let item = from.checked_add(i64::from(i)).filter(|n| *n < to);
+    Ok(item.map(ScriptValue::Number))
 }
 
 fn fault_of_kind(kind: u16) -> Fault
@@ -35,13 +31,13 @@ fn seq_item(k: u16, i: u32) -> Item<ScriptValue>
 {
     let kind = k / 100;
     if kind >= 10 {
-        Item::NotIterable
+        Err(NoItem::NotIterable)
     } else if i >= (k % 10) as u32 {
-        Item::End
+        Ok(None)
     } else if kind > 0 && i == (k / 10 % 10) as u32 {
-        Item::Fault(fault_of_kind(kind))
+        Err(NoItem::Fault(fault_of_kind(kind)))
     } else {
-        Item::Item(ScriptValue::Number(i as i64 * 10))
+        Ok(Some(ScriptValue::Number(i64::from(i) * 10)))
     }
 }
 
@@ -52,6 +48,6 @@ pub(crate) fn item_of(value: ScriptValue, i: u32) -> Item<ScriptValue>
     match value {
         ScriptValue::Range(from, to) => range_item(from, to, i),
         ScriptValue::Seq(k) => seq_item(k, i),
-        _ => Item::NotIterable,
+        _ => Err(NoItem::NotIterable),
     }
 }

@@ -3,6 +3,7 @@
 
 mod answer;
 mod effect;
+mod entry;
 mod item;
 mod operator;
 mod script_host;
@@ -10,5 +11,6 @@ mod value;
 
 pub use answer::{AllowAnswer, EvalAnswer};
 pub use effect::Effect;
+pub use entry::Entry;
 pub use script_host::{AllowEntry, EvalEntry, ScriptHost};
 pub use value::ScriptValue;

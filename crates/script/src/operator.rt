@@ -21,12 +21,12 @@ pub(crate) fn changing(op: u16, left: ScriptValue, right: ScriptValue) -> Applie
     ensures { result ≡ changing op left right }
 {
     match op {
-        1 => Applied::Value(left),
-        2 => Applied::Value(right),
-        3 => Applied::Fault(fault_at(41, 0, 0, true)),
-        4 => Applied::Fault(fault_at(42, 80, 81, true)),
-        5 => Applied::Fault(fault_at(43, 0, 0, false)),
-        _ => Applied::NotFound,
+        1 => Ok(Some(left)),
+        2 => Ok(Some(right)),
+        3 => Err(fault_at(41, 0, 0, true)),
+        4 => Err(fault_at(42, 80, 81, true)),
+        5 => Err(fault_at(43, 0, 0, false)),
+        _ => Ok(None),
     }
 }
 
@@ -35,10 +35,10 @@ pub(crate) fn joining(op: u16, left: ScriptValue, right: ScriptValue) -> Applied
     ensures { result ≡ joining op left right }
 {
     match op {
-        2 | 6 => Applied::Value(left),
-        7 => Applied::Value(right),
-        8 => Applied::Fault(fault_at(51, 0, 0, true)),
-        9 => Applied::Fault(fault_at(52, 82, 83, false)),
-        _ => Applied::NotFound,
+        2 | 6 => Ok(Some(left)),
+        7 => Ok(Some(right)),
+        8 => Err(fault_at(51, 0, 0, true)),
+        9 => Err(fault_at(52, 82, 83, false)),
+        _ => Ok(None),
     }
 }

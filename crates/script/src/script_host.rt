@@ -1,30 +1,20 @@
-ghost use Rattle.std.specs.Prelude.{◌≡◌};
-ghost use Rattle.script.specs.Meaning.{eval_entry, allow_entry, turned, script_meaning};
+ghost use Rattle.script.specs.Meaning.{script_meaning};
 ghost use Rattle.script.specs.Laws.{script_laws};
 
 use crate::answer::{AllowAnswer, EvalAnswer, allow_answer, eval_answer};
-use crate::effect::{Effect, do_both};
+use crate::effect::do_both;
+use crate::entry::{Entry, entry_at, turn};
 use crate::item::item_of;
 use crate::operator::{changing, joining};
 use crate::value::ScriptValue;
-use host::{Allowed, Applied, Caught, Declaration, Evaluated, Host, Item, View};
+use host::{Allowed, Applied, Caught, Declaration, Evaluated, Host, Item, MOST_WHOLE, View};
 use rows::VarRow;
 
-/// One evaluation of a script: two effects in order, then an answer.
-#[derive(Clone, Copy)]
-pub struct EvalEntry {
-    pub first: Effect,
-    pub second: Effect,
-    pub answer: EvalAnswer,
-}
+/// One evaluation of a script.
+pub type EvalEntry = Entry<EvalAnswer>;
 
-/// One declaration of a script: two effects in order, then an answer.
-#[derive(Clone, Copy)]
-pub struct AllowEntry {
-    pub first: Effect,
-    pub second: Effect,
-    pub answer: AllowAnswer,
-}
+/// One declaration of a script.
+pub type AllowEntry = Entry<AllowAnswer>;
 
 /// A lent script. Evaluations go through its one list and declarations through its other, each over and over.
 #[derive(Clone, Copy)]
@@ -38,47 +28,17 @@ pub struct ScriptHost<'a> {
 }
 
 /// What stands in for an entry where a script has none.
-const NO_EVAL: EvalEntry = EvalEntry {
-    first: Effect::None,
-    second: Effect::None,
+const NO_EVAL: EvalEntry = Entry {
+    first: None,
+    second: None,
     answer: EvalAnswer::Value(ScriptValue::Unit),
 };
 
-const NO_ALLOW: AllowEntry = AllowEntry {
-    first: Effect::None,
-    second: Effect::None,
+const NO_ALLOW: AllowEntry = Entry {
+    first: None,
+    second: None,
     answer: AllowAnswer::Yes,
 };
-
-/// The largest whole number that a value is read as.
-const MOST_WHOLE: u32 = 1_000_000_000;
-
-fn eval_entry(evals: &[EvalEntry], count: usize) -> EvalEntry
-    ensures { result ≡ eval_entry evals.now count }
-{
-    if evals.len() == 0 {
-        NO_EVAL
-    } else {
-        evals[count % evals.len()]
-    }
-}
-
-fn allow_entry(allows: &[AllowEntry], count: usize) -> AllowEntry
-    ensures { result ≡ allow_entry allows.now count }
-{
-    if allows.len() == 0 {
-        NO_ALLOW
-    } else {
-        allows[count % allows.len()]
-    }
-}
-
-/// The count after one more entry of `n`.
-fn turn(count: usize, n: usize) -> usize
-    ensures { result ≡ turned count n }
-{
-    if n == 0 { count } else { (count % n + 1) % n }
-}
 
 impl<'a> Host for ScriptHost<'a> {
     type Value = ScriptValue;
@@ -94,7 +54,7 @@ impl<'a> Host for ScriptHost<'a> {
         used: usize,
         view: View<'_>,
     ) -> (usize, Evaluated<ScriptValue>) {
-        let entry = eval_entry(self.evals, self.evaluations);
+        let entry = entry_at(self.evals, self.evaluations, NO_EVAL);
         self.evaluations = turn(self.evaluations, self.evals.len());
         let used = do_both(vars, used, view.limit, entry.first, entry.second);
         (used, eval_answer(entry.answer, code, view.mark, vars, used))
@@ -107,7 +67,7 @@ impl<'a> Host for ScriptHost<'a> {
         used: usize,
         view: View<'_>,
     ) -> (usize, Allowed) {
-        let entry = allow_entry(self.allows, self.declarations);
+        let entry = entry_at(self.allows, self.declarations, NO_ALLOW);
         self.declarations = turn(self.declarations, self.allows.len());
         let used = do_both(vars, used, view.limit, entry.first, entry.second);
         (used, allow_answer(entry.answer, declaration))
@@ -130,11 +90,11 @@ impl<'a> Host for ScriptHost<'a> {
     }
 
     fn make_whole(&self, number: u32) -> ScriptValue {
-        ScriptValue::Number(number as i64)
+        ScriptValue::Number(i64::from(number))
     }
 
     fn is_unit(&self, value: ScriptValue) -> bool {
-        value.unit_is()
+        value == ScriptValue::Unit
     }
 
     fn truth(&self, value: ScriptValue) -> Option<bool> {
@@ -154,6 +114,6 @@ impl<'a> Host for ScriptHost<'a> {
     }
 
     fn caught(&self, fault: Caught) -> ScriptValue {
-        ScriptValue::Number(fault.number() as i64)
+        ScriptValue::Number(i64::from(fault.number()))
     }
 }

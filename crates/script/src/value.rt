@@ -1,11 +1,11 @@
 ghost use Rattle.std.specs.Prelude.{◌≡◌};
 ghost use Rattle.script.specs.declared.value.ScriptValue.TheVariants.{Unit as TheUnit};
-ghost use Rattle.script.specs.Values.{unit_is, truth_in, number_up_to, count_of};
+ghost use Rattle.script.specs.Values.{truth_in, number_up_to, count_of};
 
 use rows::Unital;
 
 /// A value of the scripted host.
-#[derive(Clone, Copy)]
+#[derive(Clone, Copy, Debug, PartialEq, Eq)]
 pub enum ScriptValue {
     Unit,
     Truth(bool),
@@ -32,15 +32,6 @@ pub(crate) fn count_of(n: usize) -> ScriptValue
 }
 
 impl ScriptValue {
-    pub(crate) fn unit_is(self) -> bool
-        ensures { result ≡ unit_is self }
-    {
-        match self {
-            ScriptValue::Unit => true,
-            _ => false,
-        }
-    }
-
     pub(crate) fn truth_in(self) -> Option<bool>
         ensures { result ≡ truth_in self }
     {
@@ -55,7 +46,7 @@ impl ScriptValue {
         ensures { result ≡ number_up_to most self }
     {
         match self {
-            ScriptValue::Number(n) if n >= 0 && n <= most as i64 => Some(n as u32),
+            ScriptValue::Number(n) => u32::try_from(n).ok().filter(|n| *n <= most),
             _ => None,
         }
     }
