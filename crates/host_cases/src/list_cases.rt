@@ -60,9 +60,9 @@ fn print_read(rt: &HostRuntime, host: &ListHost<'_>) -> anyhow::Result<()> {
     for v in VALUES {
         let value = ListValue(v);
         let unit = told::yes_or_no(host.is_unit(value));
-        let truth = told::truth(host.truth(value));
-        let whole = told::number(host.whole(value));
-        let path = told::number(host.path(value));
+        let truth = told::Reading(host.truth(value));
+        let whole = told::Reading(host.whole(value));
+        let path = told::Reading(host.path(value));
         println!(rt; "list {v}: unit {unit}, truth {truth}, whole {whole}, path {path}")?;
     }
     Ok(())
@@ -75,14 +75,14 @@ fn print_made(rt: &HostRuntime, host: &ListHost<'_>) -> anyhow::Result<()> {
         ("true", host.make_truth(true)),
     ];
     for (name, value) in made {
-        println!(rt; "list {name}: {}", value.0)?;
+        println!(rt; "list {name}: {value}")?;
     }
     Ok(())
 }
 
 fn print_wholes(rt: &HostRuntime, host: &ListHost<'_>) -> anyhow::Result<()> {
     for n in WHOLES {
-        println!(rt; "list whole {n}: {}", host.make_whole(n).0)?;
+        println!(rt; "list whole {n}: {}", host.make_whole(n))?;
     }
     Ok(())
 }
@@ -90,21 +90,22 @@ fn print_wholes(rt: &HostRuntime, host: &ListHost<'_>) -> anyhow::Result<()> {
 fn print_caught(rt: &HostRuntime, host: &ListHost<'_>) -> anyhow::Result<()> {
     for fault in CAUGHT {
         let number = fault.number();
-        println!(rt; "list caught {number}: {}", host.caught(fault).0)?;
+        println!(rt; "list caught {number}: {}", host.caught(fault))?;
     }
     Ok(())
 }
 
 fn print_fixed(rt: &HostRuntime, host: &ListHost<'_>) -> anyhow::Result<()> {
     let five = ListValue(5);
-    let fixed = [
-        ("apply", told::applied(host.apply(1, five, five))),
-        ("binary", told::applied(host.binary(2, five, five))),
-        ("item", told::item(host.item(five, 0))),
-    ];
-    for (name, answer) in fixed {
-        println!(rt; "list {name}: {answer}")?;
-    }
+    println!(rt;
+        "list apply: {}",
+        told::Application(host.apply(1, five, five))
+    )?;
+    println!(rt;
+        "list binary: {}",
+        told::Application(host.binary(2, five, five))
+    )?;
+    println!(rt; "list item: {}", told::ItemAt(host.item(five, 0)))?;
     Ok(())
 }
 
@@ -117,7 +118,7 @@ fn print_evaluated(rt: &HostRuntime, vars: &mut [VarRow<ListValue>]) -> anyhow::
     };
     for used in [1, 1, 2, 3, 0] {
         let (names, answer) = host.evaluate(9, vars, used, view(false, 2));
-        let answer = told::evaluated(answer);
+        let answer = told::Evaluation(answer);
         let next = host.next;
         println!(rt; "list evaluate: {answer}, names {names}, next {next}")?;
     }
@@ -137,7 +138,7 @@ fn print_allowed(rt: &HostRuntime, vars: &mut [VarRow<ListValue>]) -> anyhow::Re
             present,
         };
         let (names, answer) = host.allow(declaration, vars, 1, view(true, 2));
-        let answer = told::allowed(answer);
+        let answer = told::Permission(answer);
         let next = host.next;
         println!(rt; "list allow, present {present}: {answer}, names {names}, next {next}")?;
     }

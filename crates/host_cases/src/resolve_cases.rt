@@ -5,7 +5,7 @@ use host::Fault;
 use image::Position;
 use resolve::{Pair, PathRow, Resolved, Resolver, TableResolver};
 
-const BROKEN: Resolved = Resolved::Fault(Fault {
+const BROKEN: Resolved = Err(Fault {
     code: 5,
     at: Position { line: 3, column: 4 },
     catchable: true,
@@ -14,15 +14,15 @@ const BROKEN: Resolved = Resolved::Fault(Fault {
 const FIRST: [PathRow; 5] = [
     PathRow {
         path: 1,
-        answer: Resolved::Module(10),
+        answer: Ok(Some(10)),
     },
     PathRow {
         path: 2,
-        answer: Resolved::NotFound,
+        answer: Ok(None),
     },
     PathRow {
         path: 2,
-        answer: Resolved::Module(20),
+        answer: Ok(Some(20)),
     },
     PathRow {
         path: 3,
@@ -30,32 +30,32 @@ const FIRST: [PathRow; 5] = [
     },
     PathRow {
         path: 1,
-        answer: Resolved::Module(11),
+        answer: Ok(Some(11)),
     },
 ];
 
 const SECOND: [PathRow; 4] = [
     PathRow {
         path: 1,
-        answer: Resolved::Module(12),
+        answer: Ok(Some(12)),
     },
     PathRow {
         path: 2,
-        answer: Resolved::Module(22),
+        answer: Ok(Some(22)),
     },
     PathRow {
         path: 3,
-        answer: Resolved::Module(32),
+        answer: Ok(Some(32)),
     },
     PathRow {
         path: 4,
-        answer: Resolved::Module(42),
+        answer: Ok(Some(42)),
     },
 ];
 
 fn print_answers<R: Resolver>(rt: &HostRuntime, name: &str, resolver: &R) -> anyhow::Result<()> {
     for path in [1, 2, 3, 4, 5] {
-        let answer = told::resolved(resolver.resolve(path));
+        let answer = told::Resolution(resolver.resolve(path));
         println!(rt; "{name} {path}: {answer}")?;
     }
     Ok(())

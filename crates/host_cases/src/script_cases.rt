@@ -1,11 +1,12 @@
 //! Evaluations and declarations of the scripted host.
 
 use crate::told;
-use crate::told::Word;
 use host::{Declaration, Fault, Host, View};
 use image::Position;
 use rows::{Access, Place, Source, Texts, VarRow};
-use script::{AllowAnswer, AllowEntry, Effect, EvalAnswer, EvalEntry, ScriptHost, ScriptValue};
+use script::{
+    AllowAnswer, AllowEntry, Effect, Entry, EvalAnswer, EvalEntry, ScriptHost, ScriptValue,
+};
 
 const PLACE: Place = Place {
     source: Source::Site,
@@ -19,28 +20,35 @@ const FAULT: Fault = Fault {
     catchable: true,
 };
 
-const NOTHING: Effect = Effect::None;
+const NOTHING: Option<Effect> = None;
 
-const APPEND_8: Effect = Effect::Append(PLACE, ScriptValue::Number(8));
+const APPEND_8: Option<Effect> = Some(Effect::Append(PLACE, ScriptValue::Number(8)));
 
-const APPEND_9: Effect = Effect::Append(PLACE, ScriptValue::Number(9));
+const APPEND_9: Option<Effect> = Some(Effect::Append(PLACE, ScriptValue::Number(9)));
 
-const SET_0: Effect = Effect::Set(0, ScriptValue::Number(5));
+const SET_0: Option<Effect> = Some(Effect::Set(0, ScriptValue::Number(5)));
 
-const SET_1: Effect = Effect::Set(1, ScriptValue::Number(5));
+const SET_1: Option<Effect> = Some(Effect::Set(1, ScriptValue::Number(5)));
 
-const SET_2: Effect = Effect::Set(2, ScriptValue::Number(5));
+const SET_2: Option<Effect> = Some(Effect::Set(2, ScriptValue::Number(5)));
 
-const SET_3: Effect = Effect::Set(3, ScriptValue::Number(5));
+const SET_3: Option<Effect> = Some(Effect::Set(3, ScriptValue::Number(5)));
 
-const SET_AGAIN: Effect = Effect::Set(1, ScriptValue::Number(6));
+const SET_AGAIN: Option<Effect> = Some(Effect::Set(1, ScriptValue::Number(6)));
 
 const SIX: ScriptValue = ScriptValue::Number(6);
 
 const LAST: EvalAnswer = EvalAnswer::Row(1);
 
 /// Evaluations: how many rows of four are in use, the limit, two effects and the answer.
-const EVALS: [(&str, usize, usize, Effect, Effect, EvalAnswer); 29] = [
+const EVALS: [(
+    &str,
+    usize,
+    usize,
+    Option<Effect>,
+    Option<Effect>,
+    EvalAnswer,
+); 29] = [
     ("value", 1, 3, NOTHING, NOTHING, EvalAnswer::Value(SIX)),
     ("fault", 1, 3, NOTHING, NOTHING, EvalAnswer::Fault(FAULT)),
     ("exit", 1, 3, NOTHING, NOTHING, EvalAnswer::Exit(SIX)),
@@ -122,7 +130,7 @@ const EVALS: [(&str, usize, usize, Effect, Effect, EvalAnswer); 29] = [
 ];
 
 /// Declarations at level 2, the name present: an effect, the answer, and the access.
-const ALLOWS: [(&str, Effect, AllowAnswer, Access); 11] = [
+const ALLOWS: [(&str, Option<Effect>, AllowAnswer, Access); 11] = [
     ("yes", NOTHING, AllowAnswer::Yes, Access::ReadWrite),
     ("no", NOTHING, AllowAnswer::No, Access::ReadWrite),
     (
@@ -148,12 +156,12 @@ const ALLOWS: [(&str, Effect, AllowAnswer, Access); 11] = [
 
 /// A list of two entries for evaluations, and one for declarations.
 const TWO_EVALS: [EvalEntry; 2] = [
-    EvalEntry {
+    Entry {
         first: NOTHING,
         second: NOTHING,
         answer: EvalAnswer::Value(ScriptValue::Number(9)),
     },
-    EvalEntry {
+    Entry {
         first: NOTHING,
         second: NOTHING,
         answer: EvalAnswer::Code,
@@ -161,12 +169,12 @@ const TWO_EVALS: [EvalEntry; 2] = [
 ];
 
 const TWO_ALLOWS: [AllowEntry; 2] = [
-    AllowEntry {
+    Entry {
         first: NOTHING,
         second: NOTHING,
         answer: AllowAnswer::Yes,
     },
-    AllowEntry {
+    Entry {
         first: NOTHING,
         second: NOTHING,
         answer: AllowAnswer::Present,
@@ -194,12 +202,12 @@ fn view(mark: bool, limit: usize) -> View<'static> {
 /// The values of rows, those of constants with a mark.
 fn print_rows(rt: &HostRuntime, rows: &[VarRow<ScriptValue>]) -> anyhow::Result<()> {
     for row in rows {
-        let word = Word::Scripted(row.value());
-        let mark = match row.access() {
-            Access::ReadWrite => "",
-            Access::Constant => "!",
+        let mark = if row.access() == Access::Constant {
+            "!"
+        } else {
+            ""
         };
-        print!(rt; " {word}{mark}")?;
+        print!(rt; " {}{mark}", row.value())?;
     }
     println!(rt; "")?;
     Ok(())
@@ -222,7 +230,7 @@ fn show(
     };
     let mut vars = four_rows();
     let (names, answer) = host.evaluate(77, &mut vars, used, view(true, limit));
-    let answer = told::evaluated(answer);
+    let answer = told::Evaluation(answer);
     print!(rt; "script {name}: {answer}, names {names}, rows")?;
     print_rows(rt, &vars)
 }
@@ -234,7 +242,7 @@ fn print_evals(rt: &HostRuntime) -> anyhow::Result<()> {
             name,
             used,
             limit,
-            EvalEntry {
+            Entry {
                 first,
                 second,
                 answer,
@@ -259,7 +267,7 @@ fn print_turns(
     };
     for code in 0..3 {
         let (_, answer) = host.evaluate(code, vars, 1, view(false, 4));
-        let answer = told::evaluated(answer);
+        let answer = told::Evaluation(answer);
         let count = host.evaluations;
         let other = host.declarations;
         println!(rt; "script turn: {answer}, counts {count} {other}")?;
@@ -271,13 +279,13 @@ fn print_turns(
 fn declare(
     rt: &HostRuntime,
     name: &str,
-    first: Effect,
+    first: Option<Effect>,
     answer: AllowAnswer,
     access: Access,
 ) -> anyhow::Result<()> {
-    let allows = [AllowEntry {
+    let allows = [Entry {
         first,
-        second: Effect::None,
+        second: None,
         answer,
     }];
     let mut host = ScriptHost {
@@ -294,7 +302,7 @@ fn declare(
     };
     let mut vars = four_rows();
     let (names, answer) = host.allow(declaration, &mut vars, 1, view(true, 3));
-    let answer = told::allowed(answer);
+    let answer = told::Permission(answer);
     print!(rt; "script allow {name}: {answer}, names {names}, rows")?;
     print_rows(rt, &vars)
 }
@@ -326,7 +334,7 @@ fn print_declared(
     };
     for _ in 0..3 {
         let (_, answer) = host.allow(declaration, vars, 1, view(false, 4));
-        let answer = told::allowed(answer);
+        let answer = told::Permission(answer);
         let count = host.evaluations;
         let other = host.declarations;
         println!(rt; "script allow turn: {answer}, counts {count} {other}")?;

@@ -1,7 +1,6 @@
 //! The calls of the scripted host that change nothing.
 
 use crate::told;
-use crate::told::Word;
 use host::{Caught, Host};
 use script::ScriptValue::{Number, Range, Seq, Truth, Unit};
 use script::{ScriptHost, ScriptValue};
@@ -54,12 +53,11 @@ const ITEMS: [(ScriptValue, u32); 29] = [
 
 fn print_read(rt: &HostRuntime, host: &ScriptHost<'_>) -> anyhow::Result<()> {
     for value in VALUES {
-        let word = Word::Scripted(value);
         let unit = told::yes_or_no(host.is_unit(value));
-        let truth = told::truth(host.truth(value));
-        let whole = told::number(host.whole(value));
-        let path = told::number(host.path(value));
-        println!(rt; "script {word}: unit {unit}, truth {truth}, whole {whole}, path {path}")?;
+        let truth = told::Reading(host.truth(value));
+        let whole = told::Reading(host.whole(value));
+        let path = told::Reading(host.path(value));
+        println!(rt; "script {value}: unit {unit}, truth {truth}, whole {whole}, path {path}")?;
     }
     Ok(())
 }
@@ -72,16 +70,15 @@ fn print_made(rt: &HostRuntime, host: &ScriptHost<'_>) -> anyhow::Result<()> {
         ("caught", host.caught(Caught::Host(9))),
     ];
     for (name, value) in made {
-        let word = Word::Scripted(value);
-        println!(rt; "script {name}: {word}")?;
+        println!(rt; "script {name}: {value}")?;
     }
     Ok(())
 }
 
 fn print_operators(rt: &HostRuntime, host: &ScriptHost<'_>) -> anyhow::Result<()> {
     for op in 0..11 {
-        let applied = told::applied(host.apply(op, Number(1), Number(2)));
-        let binary = told::applied(host.binary(op, Number(1), Number(2)));
+        let applied = told::Application(host.apply(op, Number(1), Number(2)));
+        let binary = told::Application(host.binary(op, Number(1), Number(2)));
         println!(rt; "script operator {op}: apply {applied}, binary {binary}")?;
     }
     Ok(())
@@ -89,9 +86,8 @@ fn print_operators(rt: &HostRuntime, host: &ScriptHost<'_>) -> anyhow::Result<()
 
 fn print_items(rt: &HostRuntime, host: &ScriptHost<'_>) -> anyhow::Result<()> {
     for (value, i) in ITEMS {
-        let word = Word::Scripted(value);
-        let item = told::item(host.item(value, i));
-        println!(rt; "script {word}, item {i}: {item}")?;
+        let item = told::ItemAt(host.item(value, i));
+        println!(rt; "script {value}, item {i}: {item}")?;
     }
     Ok(())
 }

@@ -1,65 +1,9 @@
 //! Answers in words.
 
-use host::{Allowed, Applied, Evaluated, Fault, Item};
+use host::{Allowed, Applied, Evaluated, Fault, Halt, Item, NoItem};
 use image::Position;
-use list::ListValue;
 use resolve::Resolved;
-use script::ScriptValue;
 use std::fmt;
-
-/// A value of either host.
-#[derive(Clone, Copy)]
-pub enum Word {
-    Listed(u32),
-    Scripted(ScriptValue),
-}
-
-impl fmt::Display for Word {
-    fn fmt<W: fmt::Write>(&self, f: &mut fmt::Formatter<W>) -> fmt::Result {
-        match *self {
-            Word::Listed(n) => write!(f, "{n}"),
-            Word::Scripted(ScriptValue::Unit) => write!(f, "unit"),
-            Word::Scripted(ScriptValue::Truth(b)) => write!(f, "{b}"),
-            Word::Scripted(ScriptValue::Number(n)) => write!(f, "{n}"),
-            Word::Scripted(ScriptValue::Range(a, b)) => write!(f, "{a}..{b}"),
-            Word::Scripted(ScriptValue::Seq(k)) => write!(f, "seq {k}"),
-        }
-    }
-}
-
-pub trait Tell: Copy {
-    fn word(self) -> Word;
-}
-
-impl Tell for ListValue {
-    fn word(self) -> Word {
-        Word::Listed(self.0)
-    }
-}
-
-impl Tell for ScriptValue {
-    fn word(self) -> Word {
-        Word::Scripted(self)
-    }
-}
-
-/// What a call answered.
-#[derive(Clone, Copy)]
-pub enum Told {
-    Value(Word),
-    Exit(Word),
-    Item(Word),
-    Fault(Fault),
-    Module(u32),
-    Number(u32),
-    Truth(bool),
-    Yes,
-    No,
-    None,
-    NotFound,
-    End,
-    NotIterable,
-}
 
 /// A position in words; line 0 and column 0 are none.
 #[derive(Clone, Copy)]
@@ -68,99 +12,107 @@ struct At(Position);
 impl fmt::Display for At {
     fn fmt<W: fmt::Write>(&self, f: &mut fmt::Formatter<W>) -> fmt::Result {
         let Position { line, column } = self.0;
-        if line == 0 && column == 0 {
-            write!(f, "")
+        if self.0 == Position::NONE {
+            Ok(())
         } else {
             write!(f, " at {line}:{column}")
         }
     }
 }
 
-fn kind(catchable: bool) -> &'static str {
-    if catchable { "catchable" } else { "final" }
+#[derive(Clone, Copy)]
+struct Failed(Fault);
+
+impl fmt::Display for Failed {
+    fn fmt<W: fmt::Write>(&self, f: &mut fmt::Formatter<W>) -> fmt::Result {
+        let Fault {
+            code,
+            at,
+            catchable,
+        } = self.0;
+        let kind = if catchable { "catchable" } else { "final" };
+        write!(f, "fault {code} {kind}{}", At(at))
+    }
 }
 
-impl fmt::Display for Told {
+#[derive(Clone, Copy)]
+pub struct Evaluation<V>(pub Evaluated<V>);
+
+impl<V: fmt::Display> fmt::Display for Evaluation<V> {
     fn fmt<W: fmt::Write>(&self, f: &mut fmt::Formatter<W>) -> fmt::Result {
-        match *self {
-            Told::Value(word) => write!(f, "value {word}"),
-            Told::Exit(word) => write!(f, "exit {word}"),
-            Told::Item(word) => write!(f, "item {word}"),
-            Told::Fault(fault) => write!(
-                f,
-                "fault {} {}{}",
-                fault.code,
-                kind(fault.catchable),
-                At(fault.at)
-            ),
-            Told::Module(n) => write!(f, "module {n}"),
-            Told::Number(n) => write!(f, "{n}"),
-            Told::Truth(b) => write!(f, "{b}"),
-            Told::Yes => write!(f, "yes"),
-            Told::No => write!(f, "no"),
-            Told::None => write!(f, "none"),
-            Told::NotFound => write!(f, "not found"),
-            Told::End => write!(f, "end"),
-            Told::NotIterable => write!(f, "not iterable"),
+        match &self.0 {
+            Ok(value) => write!(f, "value {value}"),
+            Err(Halt::Fault(fault)) => Failed(*fault).fmt(f),
+            Err(Halt::Exit(value)) => write!(f, "exit {value}"),
         }
     }
 }
 
-pub fn evaluated<V: Tell>(answer: Evaluated<V>) -> Told {
-    match answer {
-        Evaluated::Value(v) => Told::Value(v.word()),
-        Evaluated::Fault(fault) => Told::Fault(fault),
-        Evaluated::Exit(v) => Told::Exit(v.word()),
+#[derive(Clone, Copy)]
+pub struct Permission(pub Allowed);
+
+impl fmt::Display for Permission {
+    fn fmt<W: fmt::Write>(&self, f: &mut fmt::Formatter<W>) -> fmt::Result {
+        match self.0 {
+            Ok(allowed) => yes_or_no(allowed).fmt(f),
+            Err(fault) => Failed(fault).fmt(f),
+        }
     }
 }
 
-pub fn allowed(answer: Allowed) -> Told {
-    match answer {
-        Allowed::Yes => Told::Yes,
-        Allowed::No => Told::No,
-        Allowed::Fault(fault) => Told::Fault(fault),
+#[derive(Clone, Copy)]
+pub struct Application<V>(pub Applied<V>);
+
+impl<V: fmt::Display> fmt::Display for Application<V> {
+    fn fmt<W: fmt::Write>(&self, f: &mut fmt::Formatter<W>) -> fmt::Result {
+        match &self.0 {
+            Ok(Some(value)) => write!(f, "value {value}"),
+            Ok(None) => write!(f, "not found"),
+            Err(fault) => Failed(*fault).fmt(f),
+        }
     }
 }
 
-pub fn applied<V: Tell>(answer: Applied<V>) -> Told {
-    match answer {
-        Applied::Value(v) => Told::Value(v.word()),
-        Applied::NotFound => Told::NotFound,
-        Applied::Fault(fault) => Told::Fault(fault),
+#[derive(Clone, Copy)]
+pub struct ItemAt<V>(pub Item<V>);
+
+impl<V: fmt::Display> fmt::Display for ItemAt<V> {
+    fn fmt<W: fmt::Write>(&self, f: &mut fmt::Formatter<W>) -> fmt::Result {
+        match &self.0 {
+            Ok(Some(value)) => write!(f, "item {value}"),
+            Ok(None) => write!(f, "end"),
+            Err(NoItem::NotIterable) => write!(f, "not iterable"),
+            Err(NoItem::Fault(fault)) => Failed(*fault).fmt(f),
+        }
     }
 }
 
-pub fn item<V: Tell>(answer: Item<V>) -> Told {
-    match answer {
-        Item::Item(v) => Told::Item(v.word()),
-        Item::Fault(fault) => Told::Fault(fault),
-        Item::End => Told::End,
-        Item::NotIterable => Told::NotIterable,
+#[derive(Clone, Copy)]
+pub struct Resolution(pub Resolved);
+
+impl fmt::Display for Resolution {
+    fn fmt<W: fmt::Write>(&self, f: &mut fmt::Formatter<W>) -> fmt::Result {
+        match self.0 {
+            Ok(Some(module)) => write!(f, "module {module}"),
+            Ok(None) => write!(f, "not found"),
+            Err(fault) => Failed(fault).fmt(f),
+        }
     }
 }
 
-pub fn resolved(answer: Resolved) -> Told {
-    match answer {
-        Resolved::Module(n) => Told::Module(n),
-        Resolved::NotFound => Told::NotFound,
-        Resolved::Fault(fault) => Told::Fault(fault),
+/// What a value reads as, and a word where it does not.
+#[derive(Clone, Copy)]
+pub struct Reading<T>(pub Option<T>);
+
+impl<T: fmt::Display> fmt::Display for Reading<T> {
+    fn fmt<W: fmt::Write>(&self, f: &mut fmt::Formatter<W>) -> fmt::Result {
+        match &self.0 {
+            Some(value) => value.fmt(f),
+            None => write!(f, "none"),
+        }
     }
 }
 
-pub fn number(answer: Option<u32>) -> Told {
-    match answer {
-        Some(n) => Told::Number(n),
-        None => Told::None,
-    }
-}
-
-pub fn truth(answer: Option<bool>) -> Told {
-    match answer {
-        Some(b) => Told::Truth(b),
-        None => Told::None,
-    }
-}
-
-pub fn yes_or_no(answer: bool) -> Told {
-    if answer { Told::Yes } else { Told::No }
+pub fn yes_or_no(answer: bool) -> &'static str {
+    if answer { "yes" } else { "no" }
 }

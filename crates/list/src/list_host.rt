@@ -1,5 +1,5 @@
 ghost use Rattle.std.specs.Prelude.{◌≡◌};
-ghost use Rattle.list.specs.Meaning.{entry_answer, next_answer, onward, list_meaning};
+ghost use Rattle.list.specs.Meaning.{entry_answer, next_answer, onward, unless_present, list_meaning};
 ghost use Rattle.list.specs.Laws.{list_laws};
 
 use crate::value::ListValue;
@@ -55,6 +55,13 @@ fn place_after(entries: &[ListEntry], next: usize) -> usize
     if next < entries.len() { next + 1 } else { next }
 }
 
+/// A name that is there already is refused.
+fn unless_present(present: bool) -> Allowed
+    ensures { result ≡ unless_present present }
+{
+    Ok(!present)
+}
+
 impl<'a> Host for ListHost<'a> {
     type Value = ListValue;
 
@@ -74,7 +81,6 @@ impl<'a> Host for ListHost<'a> {
         (used.min(vars.len()), answer)
     }
 
-    /// A name that is there already is refused.
     fn allow(
         &mut self,
         declaration: Declaration,
@@ -82,7 +88,7 @@ impl<'a> Host for ListHost<'a> {
         used: usize,
         _view: View<'_>,
     ) -> (usize, Allowed) {
-        (used.min(vars.len()), Ok(!declaration.present))
+        (used.min(vars.len()), unless_present(declaration.present))
     }
 
     fn apply(&self, _op: u16, _left: ListValue, _right: ListValue) -> Applied<ListValue> {

@@ -3,6 +3,7 @@ ghost use Rattle.list.specs.Values.{valued, truth_in, whole_in, path_in, of_trut
 
 use host::MOST_WHOLE;
 use rows::Unital;
+use std::fmt;
 
 /// A value: 0 is unit, 1 false, 2 true, and n from 3 on the number n - 3.
 #[derive(Clone, Copy, Debug, PartialEq, Eq)]
@@ -13,6 +14,13 @@ impl Unital for ListValue {
 
     fn unit() -> ListValue {
         ListValue(0)
+    }
+}
+
+/// A value is told by its number.
+impl fmt::Display for ListValue {
+    fn fmt<W: fmt::Write>(&self, f: &mut fmt::Formatter<W>) -> fmt::Result {
+        self.0.fmt(f)
     }
 }
 

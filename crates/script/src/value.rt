@@ -3,6 +3,7 @@ ghost use Rattle.script.specs.declared.value.ScriptValue.TheVariants.{Unit as Th
 ghost use Rattle.script.specs.Values.{truth_in, number_up_to, count_of};
 
 use rows::Unital;
+use std::fmt;
 
 /// A value of the scripted host.
 #[derive(Clone, Copy, Debug, PartialEq, Eq)]
@@ -21,6 +22,18 @@ impl Unital for ScriptValue {
 
     fn unit() -> ScriptValue {
         ScriptValue::Unit
+    }
+}
+
+impl fmt::Display for ScriptValue {
+    fn fmt<W: fmt::Write>(&self, f: &mut fmt::Formatter<W>) -> fmt::Result {
+        match self {
+            ScriptValue::Unit => write!(f, "unit"),
+            ScriptValue::Truth(truth) => write!(f, "{truth}"),
+            ScriptValue::Number(number) => write!(f, "{number}"),
+            ScriptValue::Range(from, to) => write!(f, "{from}..{to}"),
+            ScriptValue::Seq(digits) => write!(f, "seq {digits}"),
+        }
     }
 }
 
