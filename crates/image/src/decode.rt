@@ -1,42 +1,22 @@
 //! What each kind of row reads, said once.
 
-ghost use Rattle.std.specs.Prelude.{◌≡◌, ℕ, ◌+◌, ◌*◌, ◌<◌, ◌≤◌};
-ghost use Rattle.image.specs.Rows.{reference, nonzero, name_of, flag, expr_kind, stmt_of, stmt_from, parts};
+ghost use Rattle.std.specs.Prelude.{◌≡◌, ◌==◌, ℕ, ◌+◌, ◌*◌, ◌<◌, ◌≤◌, cond, Some, None};
+ghost use Rattle.image.specs.Rows.{name_of, flag, expr_kind, stmt_of, stmt_from, parts};
 
 use crate::fields::Fields;
 use crate::rows::{ExprKind, Name, Parts, Position, Stmt, StmtRow};
 
-/// In the place of an expression: none. In the place of a block: an empty one.
-const NONE: u16 = 65535;
-
-const CONSTANT: u8 = 1;
-
-const NEGATED: u8 = 4;
-
-const BREAK: u8 = 8;
-
-const LARGEST_FLAGS: u8 = 15;
-
-fn reference(n: u16) -> Option<u16>
-    ensures { result ≡ reference n }
+/// The number, unless it is the one that stands for none.
+fn unless(none: u16, n: u16) -> Option<u16>
+    ensures { result ≡ cond (n == none) None (Some n) }
 {
-    if n == NONE { None } else { Some(n) }
-}
-
-fn nonzero(n: u16) -> Option<u16>
-    ensures { result ≡ nonzero n }
-{
-    if n == 0 { None } else { Some(n) }
+    (n != none).then_some(n)
 }
 
 fn name_of(offset: u16, length: u16) -> Option<Name>
     ensures { result ≡ name_of offset length }
 {
-    if length == 0 {
-        None
-    } else {
-        Some(Name { offset, length })
-    }
+    (length != 0).then_some(Name { offset, length })
 }
 
 pub(crate) fn expr_kind(kind: u8, code: u16) -> Option<ExprKind>
@@ -62,11 +42,11 @@ impl Fields {
     fn stmt(self) -> Option<Stmt>
         ensures { result ≡ stmt_of self }
     {
-        let expr = reference(self.e);
-        let body = reference(self.p);
-        let branch = reference(self.q);
+        let expr = unless(Fields::NONE, self.e);
+        let body = unless(Fields::NONE, self.p);
+        let branch = unless(Fields::NONE, self.q);
         let name = name_of(self.name_offset, self.name_length);
-        let index = nonzero(self.r);
+        let index = unless(0, self.r);
         match self.kind {
             0 => Some(Stmt::Noop),
             1 => Some(Stmt::Expr { expr: expr? }),
@@ -74,14 +54,14 @@ impl Fields {
             3 => Some(Stmt::Assignment {
                 name: name?,
                 expr: expr?,
-                op: nonzero(self.q),
+                op: unless(0, self.q),
                 index,
             }),
             4 => Some(Stmt::Var {
                 name: name?,
                 expr: expr?,
                 index,
-                constant: self.has(CONSTANT),
+                constant: self.has(Fields::CONSTANT),
             }),
             5 => Some(Stmt::If {
                 expr: expr?,
@@ -92,7 +72,7 @@ impl Fields {
             8 => Some(Stmt::Do {
                 expr: expr?,
                 body,
-                negated: self.has(NEGATED),
+                negated: self.has(Fields::NEGATED),
             }),
             9 => Some(Stmt::For {
                 name: name?,
@@ -102,12 +82,12 @@ impl Fields {
             }),
             10 => Some(Stmt::BreakLoop {
                 expr,
-                breaks: self.has(BREAK),
+                breaks: self.has(Fields::BREAK),
             }),
             11 => Some(Stmt::TryCatch { body, branch, name }),
             12 => Some(Stmt::Return {
                 expr,
-                throws: self.has(BREAK),
+                throws: self.has(Fields::BREAK),
             }),
             13 => Some(Stmt::Import { expr: expr?, name }),
             _ => None,
@@ -117,7 +97,7 @@ impl Fields {
     pub(crate) fn row(self) -> Option<StmtRow>
         ensures { result ≡ stmt_from self }
     {
-        if self.flags > LARGEST_FLAGS {
+        if self.flags > Fields::LARGEST_FLAGS {
             return None;
         }
         let at = Position {

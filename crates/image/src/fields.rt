@@ -13,3 +13,19 @@ pub struct Fields {
     pub r: u16,
     pub t: u16,
 }
+
+impl Fields {
+    /// In the place of an expression: none. In the place of a block: an empty one.
+    pub const NONE: u16 = 65535;
+
+    /// The flag of a variable that is constant.
+    pub const CONSTANT: u8 = 1;
+
+    /// The flag of a `Do` whose condition is negated.
+    pub const NEGATED: u8 = 4;
+
+    /// The flag of a `BreakLoop` that breaks, and of a `Return` that throws.
+    pub const BREAK: u8 = 8;
+
+    pub const LARGEST_FLAGS: u8 = 15;
+}

@@ -1,6 +1,15 @@
 /// The most blocks that an image has.
 pub const MOST_BLOCKS: usize = 256;
 
+/// The most statements that an image has.
+pub const MOST_STATEMENTS: usize = 1024;
+
+/// The most expressions that an image has.
+pub const MOST_EXPRESSIONS: usize = 1024;
+
+/// The most bytes that an image's name text has.
+pub const MOST_TEXT: usize = 2048;
+
 /// Where the tables of an image begin, in bytes, and how many rows each has.
 #[derive(Clone, Copy, PartialEq, Eq, Debug)]
 pub struct Layout {

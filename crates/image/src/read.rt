@@ -1,4 +1,4 @@
-//! Fields and rows by their place in the image.
+//! The header, and rows from their bytes.
 
 ghost use Rattle.std.specs.Prelude.{◌≡◌, ℕ, ◌+◌, ◌*◌, ◌<◌, ◌≤◌, length};
 ghost use Rattle.image.specs.Bytes.{word};
@@ -7,22 +7,15 @@ ghost use Rattle.image.specs.Rows.{block_from, expr_from, fields_from};
 
 use crate::decode::expr_kind;
 use crate::fields::Fields;
-use crate::layout::{Layout, MOST_BLOCKS};
+use crate::layout::{Layout, MOST_BLOCKS, MOST_EXPRESSIONS, MOST_STATEMENTS, MOST_TEXT};
 use crate::refusal::Refusal;
 use crate::rows::{Block, Expr, Position};
-
-/// A field of 16 bits, little-endian, from its two bytes.
-fn pair(low: u8, high: u8) -> u16
-    ensures { result ≡ low + 256 * high }
-{
-    low as u16 + 256 * (high as u16)
-}
 
 /// The layout that the header gives, if the header is right.
 pub(crate) fn read_layout(image: &[u8]) -> Result<Layout, Refusal>
     ensures { result ≡ laid_out image.now }
 {
-    let [
+    let &[
         b'R',
         b'H',
         b'S',
@@ -37,20 +30,20 @@ pub(crate) fn read_layout(image: &[u8]) -> Result<Layout, Refusal>
         e1,
         n0,
         n1,
-        tables @ ..,
+        ref tables @ ..,
     ] = image
     else {
         return Err(Refusal::Header);
     };
-    let blocks = pair(*b0, *b1) as usize;
-    let statements = pair(*s0, *s1) as usize;
-    let expressions = pair(*e0, *e1) as usize;
-    let text = pair(*n0, *n1) as usize;
+    let blocks = u16::from_le_bytes([b0, b1]) as usize;
+    let statements = u16::from_le_bytes([s0, s1]) as usize;
+    let expressions = u16::from_le_bytes([e0, e1]) as usize;
+    let text = u16::from_le_bytes([n0, n1]) as usize;
     if blocks < 1
         || blocks > MOST_BLOCKS
-        || statements > 1024
-        || expressions > 1024
-        || text > 2048
+        || statements > MOST_STATEMENTS
+        || expressions > MOST_EXPRESSIONS
+        || text > MOST_TEXT
     {
         return Err(Refusal::Counts);
     }
@@ -73,50 +66,64 @@ pub(crate) fn read_layout(image: &[u8]) -> Result<Layout, Refusal>
     })
 }
 
-fn word(image: &[u8], at: usize) -> u16
-    requires { at + 1 < length image.now }
-    ensures { result ≡ word image.now at }
+pub(crate) fn block_from(row: &[u8; 4]) -> Block
+    ensures { result ≡ block_from row.now 0 }
 {
-    pair(image[at], image[at + 1])
-}
-
-pub(crate) fn block_from(image: &[u8], at: usize) -> Block
-    requires { at + 4 ≤ length image.now }
-    ensures { result ≡ block_from image.now at }
-{
+    let [f0, f1, c0, c1] = *row;
     Block {
-        first: word(image, at),
-        count: word(image, at + 2),
+        first: u16::from_le_bytes([f0, f1]),
+        count: u16::from_le_bytes([c0, c1]),
     }
 }
 
-pub(crate) fn expr_from(image: &[u8], at: usize) -> Option<Expr>
-    requires { at + 8 ≤ length image.now }
-    ensures { result ≡ expr_from image.now at }
+pub(crate) fn expr_from(row: &[u8; 8]) -> Option<Expr>
+    ensures { result ≡ expr_from row.now 0 }
 {
-    let kind = expr_kind(image[at], word(image, at + 6))?;
+    let [kind, _, l0, l1, c0, c1, h0, h1] = *row;
+    let kind = expr_kind(kind, u16::from_le_bytes([h0, h1]))?;
     let at = Position {
-        line: word(image, at + 2),
-        column: word(image, at + 4),
+        line: u16::from_le_bytes([l0, l1]),
+        column: u16::from_le_bytes([c0, c1]),
     };
     Some(Expr { at, kind })
 }
 
-pub(crate) fn fields_from(image: &[u8], at: usize) -> Fields
-    requires { at + 20 ≤ length image.now }
-    ensures { result ≡ fields_from image.now at }
+pub(crate) fn fields_from(row: &[u8; 20]) -> Fields
+    ensures { result ≡ fields_from row.now 0 }
 {
+    let [
+        kind,
+        flags,
+        l0,
+        l1,
+        c0,
+        c1,
+        e0,
+        e1,
+        p0,
+        p1,
+        q0,
+        q1,
+        o0,
+        o1,
+        n0,
+        n1,
+        r0,
+        r1,
+        t0,
+        t1,
+    ] = *row;
     Fields {
-        kind: image[at],
-        flags: image[at + 1],
-        line: word(image, at + 2),
-        column: word(image, at + 4),
-        e: word(image, at + 6),
-        p: word(image, at + 8),
-        q: word(image, at + 10),
-        name_offset: word(image, at + 12),
-        name_length: word(image, at + 14),
-        r: word(image, at + 16),
-        t: word(image, at + 18),
+        kind,
+        flags,
+        line: u16::from_le_bytes([l0, l1]),
+        column: u16::from_le_bytes([c0, c1]),
+        e: u16::from_le_bytes([e0, e1]),
+        p: u16::from_le_bytes([p0, p1]),
+        q: u16::from_le_bytes([q0, q1]),
+        name_offset: u16::from_le_bytes([o0, o1]),
+        name_length: u16::from_le_bytes([n0, n1]),
+        r: u16::from_le_bytes([r0, r1]),
+        t: u16::from_le_bytes([t0, t1]),
     }
 }

@@ -1,23 +1,26 @@
 ghost use Rattle.std.specs.Prelude.{◌≡◌};
 ghost use Rattle.image.specs.Refusals.{number};
 
+use std::error::Error;
+use std::fmt;
+
 /// Why an image is refused. Each is tested over the whole image before the next.
 #[derive(Clone, Copy, PartialEq, Eq, Debug)]
 pub enum Refusal {
     /// The image is shorter than a header, or its mark, version or zero byte is another.
-    Header,
+    Header = 1,
     /// A count is out of range, or the length is not what the counts make.
-    Counts,
+    Counts = 2,
     /// The blocks do not use up the statements in order.
-    Blocks,
+    Blocks = 3,
     /// A row has an unknown kind, too large flags, a missing part or a reference outside its table.
-    Rows,
+    Rows = 4,
     /// A block is named by one that is not lower, or is not named exactly once.
-    Naming,
+    Naming = 5,
     /// Blocks nest too deep.
-    Nesting,
+    Nesting = 6,
     /// A break or continue stands outside every loop body.
-    StrayBreak,
+    StrayBreak = 7,
 }
 
 impl Refusal {
@@ -25,14 +28,23 @@ impl Refusal {
     pub fn number(self) -> u8
         ensures { result ≡ number self }
     {
-        match self {
-            Refusal::Header => 1,
-            Refusal::Counts => 2,
-            Refusal::Blocks => 3,
-            Refusal::Rows => 4,
-            Refusal::Naming => 5,
-            Refusal::Nesting => 6,
-            Refusal::StrayBreak => 7,
-        }
+        self as u8
     }
 }
+
+impl fmt::Display for Refusal {
+    fn fmt<W: fmt::Write>(&self, f: &mut fmt::Formatter<W>) -> fmt::Result {
+        f.write_str(match self {
+            Refusal::Header => "no header of an image",
+            Refusal::Counts => "a count out of range, or a length that the counts do not make",
+            Refusal::Blocks => "blocks that do not use up the statements in order",
+            Refusal::Rows =>
+                "a row of an unknown kind, or one that lacks a part or refers to what is not there",
+            Refusal::Naming => "a block that is not named exactly once and by a lower one",
+            Refusal::Nesting => "blocks that nest too deep",
+            Refusal::StrayBreak => "a break or continue outside every loop body",
+        })
+    }
+}
+
+impl Error for Refusal {}

@@ -13,4 +13,13 @@ pub struct Tables<'a> {
     ghost placed: { layout ≡ layout_of image.now },
 }
 
+impl<'a> Tables<'a> {
+    /// How many rows each table has, and where it lies.
+    pub fn layout(&self) -> Layout
+        ensures { result ≡ layout_of self.now.image.now }
+    {
+        self.layout
+    }
+}
+
 mod readers;
