@@ -4,18 +4,12 @@ ghost use Rattle.image.specs.Layouts.{layout_of};
 ghost use Rattle.image.specs.Rows.{stmt, parts};
 ghost use Rattle.checks.specs.Rules.{above, names_above, block_above, names, hits, namings, once_each, named_once};
 
-use image::{Parts, Tables};
-
-/// The most blocks that an image has.
-const MOST_BLOCKS: usize = 256;
+use image::{MOST_BLOCKS, Parts, Tables};
 
 fn above(b: usize, named: Option<u16>) -> bool
     ensures { result ≡ above b named }
 {
-    match named {
-        Some(n) => b < n as usize,
-        None => true,
-    }
+    named.is_none_or(|n| b < n as usize)
 }
 
 fn names_above(b: usize, parts: Parts) -> bool
@@ -35,24 +29,13 @@ fn block_above(tables: &Tables, b: usize) -> bool
     ensures { result ≡ block_above tables.now.image.now b }
 {
     let block = tables.block(b);
-    for k in 0..block.count {
-        if !stmt_above(tables, b, block.first as usize + k as usize) {
-            return false;
-        }
-    }
-    true
+    (0..block.count).all(|k| stmt_above(tables, b, block.first as usize + k as usize))
 }
 
 fn all_above(tables: &Tables) -> bool
     ensures { result ≡ all_below (block_above tables.now.image.now) (layout_of tables.now.image.now).blocks }
 {
-    let layout = tables.layout();
-    for b in 0..layout.blocks {
-        if !block_above(tables, b) {
-            return false;
-        }
-    }
-    true
+    (0..tables.layout().blocks).all(|b| block_above(tables, b))
 }
 
 /// Counts one more naming, if there is one.
@@ -72,9 +55,8 @@ fn note(counts: &mut [u16; MOST_BLOCKS], named: Option<u16>)
 fn count_namings(tables: &Tables) -> [u16; MOST_BLOCKS]
     ensures { (n : ℕ) → n < 256 → slice_index result n ≡ namings tables.now.image.now n }
 {
-    let layout = tables.layout();
     let mut counts = [0; MOST_BLOCKS];
-    for j in 0..layout.statements {
+    for j in 0..tables.layout().statements {
         let parts = tables.stmt(j).parts();
         note(&mut counts, parts.body);
         note(&mut counts, parts.branch);
@@ -85,14 +67,8 @@ fn count_namings(tables: &Tables) -> [u16; MOST_BLOCKS]
 fn once_each(tables: &Tables) -> bool
     ensures { result ≡ once_each tables.now.image.now }
 {
-    let layout = tables.layout();
     let counts = count_namings(tables);
-    for n in 1..layout.blocks {
-        if counts[n] != 1 {
-            return false;
-        }
-    }
-    true
+    (1..tables.layout().blocks).all(|n| counts[n] == 1)
 }
 
 /// Whether each block but block 0 is named exactly once, and by a lower one.

@@ -9,19 +9,13 @@ use image::{Name, Parts, Tables};
 fn refers(rows: usize, reference: Option<u16>) -> bool
     ensures { result ≡ refers rows reference }
 {
-    match reference {
-        Some(i) => (i as usize) < rows,
-        None => true,
-    }
+    reference.is_none_or(|i| (i as usize) < rows)
 }
 
 fn lies(text: usize, name: Option<Name>) -> bool
     ensures { result ≡ lies text name }
 {
-    match name {
-        Some(n) => n.offset as usize + n.length as usize <= text,
-        None => true,
-    }
+    name.is_none_or(|n| n.offset as usize + n.length as usize <= text)
 }
 
 fn fits(tables: &Tables, parts: Parts) -> bool
@@ -38,34 +32,22 @@ fn fits(tables: &Tables, parts: Parts) -> bool
 fn sound(tables: &Tables, i: usize) -> bool
     ensures { result ≡ sound tables.now.image.now i }
 {
-    match tables.statement(i) {
-        Some(row) => fits(tables, row.stmt.parts()),
-        None => false,
-    }
+    let Some(row) = tables.statement(i) else {
+        return false;
+    };
+    fits(tables, row.stmt.parts())
 }
 
 fn statements_sound(tables: &Tables) -> bool
     ensures { result ≡ all_below (sound tables.now.image.now) (layout_of tables.now.image.now).statements }
 {
-    let layout = tables.layout();
-    for i in 0..layout.statements {
-        if !sound(tables, i) {
-            return false;
-        }
-    }
-    true
+    (0..tables.layout().statements).all(|i| sound(tables, i))
 }
 
 fn expressions_known(tables: &Tables) -> bool
     ensures { result ≡ all_below (λ i. is_some (expr_at tables.now.image.now i)) (layout_of tables.now.image.now).expressions }
 {
-    let layout = tables.layout();
-    for i in 0..layout.expressions {
-        if !tables.expression(i).is_some() {
-            return false;
-        }
-    }
-    true
+    (0..tables.layout().expressions).all(|i| tables.expression(i).is_some())
 }
 
 /// Whether every row is of a known kind, with its required parts, and refers to what is there.

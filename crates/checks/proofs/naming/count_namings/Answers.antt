@@ -15,13 +15,13 @@ loop-j-init c = (λ n h. get_or-replicate 256 n 0 0 h, λ n h. omega (arith, get
 pub note-requires : goal.note-requires
 note-requires c =
     let few = few-statements c.args.tables.now.image.now c.args.tables.now.sized in
-    let n = ap (λ (l : Layout). l.statements) c.layout-layout.ensures in
+    let n = ap (λ (l : Layout). l.statements) c.layout-j-end.ensures in
     λ k h. omega (arith, c.loop-j.invariant.1 k h)
 
 pub note-requires-in-loop-j : goal.note-requires-in-loop-j
 note-requires-in-loop-j c =
     let few = few-statements c.args.tables.now.image.now c.args.tables.now.sized in
-    let n = ap (λ (l : Layout). l.statements) c.layout-layout.ensures in
+    let n = ap (λ (l : Layout). l.statements) c.layout-j-end.ensures in
     λ k h. omega (arith, c.note.ensures k h, c.loop-j.invariant.1 k h, names-once c.parts-parts.result.body k)
 
 pub loop-j-preserved : goal.loop-j-preserved
