@@ -1,3 +1,4 @@
+ghost use Rattle.std.specs.Prelude.{◌≡◌};
 ghost use Rattle.rule.specs.Checked.{Lawful};
 
 use image::Tables;
@@ -7,6 +8,15 @@ use image::Tables;
 pub struct CheckedRule<'a> {
     tables: Tables<'a>,
     ghost lawful: { Lawful tables.image.now },
+}
+
+impl<'a> CheckedRule<'a> {
+    /// The rule's tables, through which its rows are read.
+    pub fn tables(&self) -> Tables<'a>
+        ensures { result ≡ self.now.tables }
+    {
+        self.tables
+    }
 }
 
 mod check;

@@ -3,7 +3,7 @@ ghost use Rattle.rule.specs.Checked.{examined};
 ghost use Rattle.rule.specs.Summaries.{settled};
 
 use crate::summary::Summary;
-use crate::table::outermost;
+use crate::tree::Tree;
 use checks::{all_sound, in_order, named_once};
 use image::{Refusal, Tables};
 
@@ -36,5 +36,6 @@ pub(crate) fn examine(tables: &Tables) -> Result<Option<u32>, Refusal>
     if !named_once(tables) {
         return Err(Refusal::Naming);
     }
-    settle(outermost(tables))
+    let tree = Tree { tables: *tables };
+    settle(tree.outermost())
 }

@@ -6,5 +6,6 @@ mod examine;
 mod summary;
 mod table;
 mod tally;
+mod tree;
 
 pub use checked::CheckedRule;

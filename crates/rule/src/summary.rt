@@ -8,3 +8,19 @@ pub(crate) struct Summary {
     /// What its statements count at most, if that is known.
     pub quote: Option<u32>,
 }
+
+impl Summary {
+    /// Of an empty reference, which is no level.
+    pub const ABSENT: Summary = Summary {
+        height: 0,
+        contained: true,
+        quote: Some(0),
+    };
+
+    /// Of a block of no statements.
+    pub const EMPTY: Summary = Summary {
+        height: 1,
+        contained: true,
+        quote: Some(0),
+    };
+}

@@ -9,19 +9,13 @@ fn plus(a: Option<u32>, b: Option<u32>) -> Option<u32>
     requires { value a + value b < 4294967296 }
     ensures { result ≡ plus a b }
 {
-    match (a, b) {
-        (Some(x), Some(y)) => Some(x + y),
-        _ => None,
-    }
+    a.zip(b).map(|(x, y)| x + y)
 }
 
 fn larger(a: Option<u32>, b: Option<u32>) -> Option<u32>
     ensures { result ≡ larger a b }
 {
-    match (a, b) {
-        (Some(x), Some(y)) => Some(x.max(y)),
-        _ => None,
-    }
+    a.zip(b).map(|(x, y)| x.max(y))
 }
 
 /// What one evaluation of an expression counts.
@@ -34,10 +28,7 @@ fn expr_charge(_expr: u16) -> u32
 fn expr_charges(expr: Option<u16>) -> u32
     ensures { result ≡ expr_charges expr }
 {
-    match expr {
-        Some(e) => expr_charge(e),
-        None => 0,
-    }
+    expr.map_or(0, expr_charge)
 }
 
 /// The quote of a statement from those of its body and its branch.
@@ -72,25 +63,28 @@ fn holds_breaks(stmt: Stmt, body: bool, branch: bool) -> bool
     }
 }
 
-/// The summary of a statement from those of its body and its branch.
-pub(crate) fn of_stmt(stmt: Stmt, body: Summary, branch: Summary) -> Summary
-    requires { (3 + value body.quote + value branch.quote < 4294967296) × ((body.height < 65535) × (branch.height < 65535)) }
-    ensures { result ≡ of_stmt stmt body branch }
-{
-    Summary {
-        height: 1 + body.height.max(branch.height),
-        contained: holds_breaks(stmt, body.contained, branch.contained),
-        quote: stmt_quote(stmt, body.quote, branch.quote),
+impl Summary {
+    /// The summary of a statement from those of its body and its branch.
+    pub(crate) fn of_stmt(stmt: Stmt, body: Summary, branch: Summary) -> Summary
+        requires { (3 + value body.quote + value branch.quote < 4294967296) × ((body.height < 65535) × (branch.height < 65535)) }
+        ensures { result ≡ of_stmt stmt body branch }
+    {
+        Summary {
+            height: 1 + body.height.max(branch.height),
+            contained: holds_breaks(stmt, body.contained, branch.contained),
+            quote: stmt_quote(stmt, body.quote, branch.quote),
+        }
     }
-}
 
-pub(crate) fn joined(a: Summary, b: Summary) -> Summary
-    requires { value a.quote + value b.quote < 4294967296 }
-    ensures { result ≡ joined a b }
-{
-    Summary {
-        height: a.height.max(b.height),
-        contained: b.contained && a.contained,
-        quote: plus(a.quote, b.quote),
+    /// The summary of statements that stand together.
+    pub(crate) fn joined(self, next: Summary) -> Summary
+        requires { value self.quote + value next.quote < 4294967296 }
+        ensures { result ≡ joined self next }
+    {
+        Summary {
+            height: self.height.max(next.height),
+            contained: next.contained && self.contained,
+            quote: plus(self.quote, next.quote),
+        }
     }
 }

@@ -1,11 +1,11 @@
-ghost use Rattle.std.specs.Prelude.{◌≡◌, Ok, Err};
+ghost use Rattle.std.specs.Prelude.{◌≡◌, MatchResult};
 ghost use Rattle.image.specs.Layouts.{empty_image};
 ghost use Rattle.rule.specs.Checked.{checked, quote};
 ghost use Rattle.rule.specs.Laws.{EachNamedOnce, NestsNoDeeper, QuotedIfNoLoop, AtMostThrice};
 
 use crate::checked::CheckedRule;
 use crate::examine::examine;
-use crate::table::outermost;
+use crate::tree::Tree;
 use image::{Refusal, Tables};
 
 impl<'a> CheckedRule<'a> {
@@ -13,29 +13,21 @@ impl<'a> CheckedRule<'a> {
     pub fn empty() -> CheckedRule<'a>
         ensures { result.tables.image.now ≡ empty_image }
     {
-        let tables = Tables::empty();
-        CheckedRule { tables }
+        CheckedRule {
+            tables: Tables::empty(),
+        }
     }
 
     /// Checks an image, and fills `place` with its rule if it passes. The answer is the rule's quote, which a rule with a
     /// loop has not.
     pub fn check(image: &'a [u8], place: &mut CheckedRule<'a>) -> Result<Option<u32>, Refusal>
         ensures answer { result ≡ checked image.now }
-        ensures filled { elim result [ Ok _ ↦ place.new.tables.image.now ≡ image.now | Err _ ↦ place.new ≡ place.old ] }
+        ensures filled { MatchResult result (λ _. place.new.tables.image.now ≡ image.now) (λ _. place.new ≡ place.old) }
     {
-        let mut tables = Tables::empty();
-        Tables::read(image, &mut tables)?;
+        let tables = Tables::read(image)?;
         let quote = examine(&tables)?;
         *place = CheckedRule { tables };
         Ok(quote)
-    }
-
-    /// The rule's tables, through which its rows are read.
-    pub fn tables(&self) -> Tables<'a>
-        ensures { result ≡ self.now.tables }
-    {
-        let CheckedRule { tables, .. } = *self;
-        tables
     }
 
     /// The sum of what the rule's statements count, over the tree of its blocks; none if the rule has a loop. The sum is
@@ -47,6 +39,9 @@ impl<'a> CheckedRule<'a> {
         ensures present { QuotedIfNoLoop self.now.tables.image.now }
         ensures bound { AtMostThrice self.now.tables.image.now }
     {
-        outermost(&self.tables).quote
+        let tree = Tree {
+            tables: self.tables,
+        };
+        tree.outermost().quote
     }
 }

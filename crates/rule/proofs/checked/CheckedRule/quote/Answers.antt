@@ -8,8 +8,8 @@ use Rattle.rule.proofs.Quotes.{quoted_if_no_loop, at_most_thrice}
 use Rattle.rule.proofs.Verdicts.{rules}
 use Rattle.rule.proofs.checked.CheckedRule.quote.Goals as goal
 
-pub outermost-requires : goal.outermost-requires
-outermost-requires c =
+pub invariant_of-tree : goal.invariant_of-tree
+invariant_of-tree c =
     let kept = rules c.args.self.now.tables.image.now c.args.self.now.lawful in
     record { order = kept.order; rows = kept.rows; naming = kept.naming }
 

@@ -1,5 +1,0 @@
-use Rattle.rule.proofs.Filling.{Filled}
-use Rattle.rule.proofs.table.summaries.Given as goal
-
-abbrev pub invariant-loop-b : goal.invariant-loop-b
-invariant-loop-b l = Filled l.tables.image.now l.table l.b
