@@ -8,13 +8,13 @@ use Rattle.rule.proofs.Costs.{row-cost, plus-value, joined-more}
 use Rattle.rule.proofs.Sums.{part}
 use Rattle.rule.proofs.table.of_block.Goals as goal
 
-pub of_row-requires : goal.of_row-requires
-of_row-requires c =
+pub of_row-requires-clause-costs : goal.of_row-requires-clause-costs
+of_row-requires-clause-costs c =
     let s = c.args.tables.now.image.now in
     let all = ap (λ (x : Block). x.count) c.block-block.ensures in
     let lt : c.loop-k.k < (block s c.args.b).count = omega arith in
     let h = part (cost s (entry c.args.table.now) c.args.b) (block s c.args.b).count c.loop-k.k lt in
-    record { heights = c.requires.heights; costs = omega (arith, c.requires.costs) }
+    omega (arith, c.requires.costs)
 
 pub joined-sum-requires : goal.joined-sum-requires
 joined-sum-requires c =
