@@ -1,23 +1,11 @@
 //! Rows as bytes.
 
 ghost use Rattle.std.specs.Prelude.{◌≡◌, ℕ, List, ◌++◌, OnOk};
-ghost use Rattle.sheet.specs.Encoding.{low, high, kind_number, code_or, block_bytes, field_bytes, stmt_bytes, expr_bytes, header_bytes};
+ghost use Rattle.sheet.specs.Encoding.{kind_number, code_or, block_bytes, field_bytes, stmt_bytes, expr_bytes, header_bytes};
 
 use crate::sheet::{ExprEntry, StmtEntry};
 use image::{Block, ExprKind, Fields};
 use std::alloc::AllocError;
-
-fn low(n: u16) -> u8
-    ensures { result ≡ low n }
-{
-    (n % 256) as u8
-}
-
-fn high(n: u16) -> u8
-    ensures { result ≡ high n }
-{
-    (n / 256) as u8
-}
 
 /// A row that is written at the end of an image.
 pub(crate) trait Written {
@@ -54,38 +42,25 @@ impl Written for ExprEntry {
 fn block_bytes(row: Block) -> [u8; 4]
     ensures { result ≡ block_bytes row }
 {
-    [
-        low(row.first),
-        high(row.first),
-        low(row.count),
-        high(row.count),
-    ]
+    let [f0, f1] = row.first.to_le_bytes();
+    let [c0, c1] = row.count.to_le_bytes();
+    [f0, f1, c0, c1]
 }
 
 fn field_bytes(x: Fields) -> [u8; 20]
     ensures { result ≡ field_bytes x }
 {
+    let [l0, l1] = x.line.to_le_bytes();
+    let [c0, c1] = x.column.to_le_bytes();
+    let [e0, e1] = x.e.to_le_bytes();
+    let [p0, p1] = x.p.to_le_bytes();
+    let [q0, q1] = x.q.to_le_bytes();
+    let [o0, o1] = x.name_offset.to_le_bytes();
+    let [n0, n1] = x.name_length.to_le_bytes();
+    let [r0, r1] = x.r.to_le_bytes();
+    let [t0, t1] = x.t.to_le_bytes();
     [
-        x.kind,
-        x.flags,
-        low(x.line),
-        high(x.line),
-        low(x.column),
-        high(x.column),
-        low(x.e),
-        high(x.e),
-        low(x.p),
-        high(x.p),
-        low(x.q),
-        high(x.q),
-        low(x.name_offset),
-        high(x.name_offset),
-        low(x.name_length),
-        high(x.name_length),
-        low(x.r),
-        high(x.r),
-        low(x.t),
-        high(x.t),
+        x.kind, x.flags, l0, l1, c0, c1, e0, e1, p0, p1, q0, q1, o0, o1, n0, n1, r0, r1, t0, t1,
     ]
 }
 
@@ -112,36 +87,18 @@ fn expr_bytes(x: ExprEntry) -> [u8; 8]
     ensures { result ≡ expr_bytes x }
 {
     let (kind, code) = coded(x.row.kind, x.code);
-    let at = x.row.at;
-    [
-        kind,
-        x.unread,
-        low(at.line),
-        high(at.line),
-        low(at.column),
-        high(at.column),
-        low(code),
-        high(code),
-    ]
+    let [l0, l1] = x.row.at.line.to_le_bytes();
+    let [c0, c1] = x.row.at.column.to_le_bytes();
+    let [h0, h1] = code.to_le_bytes();
+    [kind, x.unread, l0, l1, c0, c1, h0, h1]
 }
 
 pub(crate) fn header(blocks: u16, statements: u16, expressions: u16, text: u16) -> [u8; 14]
     ensures { result ≡ header_bytes blocks statements expressions text }
 {
-    [
-        b'R',
-        b'H',
-        b'S',
-        1,
-        0,
-        0,
-        low(blocks),
-        high(blocks),
-        low(statements),
-        high(statements),
-        low(expressions),
-        high(expressions),
-        low(text),
-        high(text),
-    ]
+    let [b0, b1] = blocks.to_le_bytes();
+    let [s0, s1] = statements.to_le_bytes();
+    let [e0, e1] = expressions.to_le_bytes();
+    let [n0, n1] = text.to_le_bytes();
+    [b'R', b'H', b'S', 1, 0, 0, b0, b1, s0, s1, e0, e1, n0, n1]
 }

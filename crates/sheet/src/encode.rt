@@ -6,44 +6,26 @@ ghost use Rattle.sheet.specs.Encoding.{numbered, or_zero, name_fields, marked, f
 use crate::sheet::{StmtEntry, Unread};
 use image::{Fields, Name, Position, Stmt};
 
-/// In the place of an expression: none. In the place of a block: an empty one.
-const NONE: u16 = 65535;
-
-const CONSTANT: u8 = 1;
-
-const NEGATED: u8 = 4;
-
-const BREAK: u8 = 8;
-
 fn reference(row: Option<u16>) -> u16
     ensures { result ≡ numbered row }
 {
-    match row {
-        Some(n) => n,
-        None => NONE,
-    }
+    row.unwrap_or(Fields::NONE)
 }
 
 fn or_zero(number: Option<u16>) -> u16
     ensures { result ≡ or_zero number }
 {
-    match number {
-        Some(n) => n,
-        None => 0,
-    }
+    number.unwrap_or(0)
 }
 
 /// A name in two fields; where there is none, its offset is free.
 fn name_fields(name: Option<Name>, free: u16) -> Name
     ensures { result ≡ name_fields name free }
 {
-    match name {
-        Some(n) => n,
-        None => Name {
-            offset: free,
-            length: 0,
-        },
-    }
+    name.unwrap_or(Name {
+        offset: free,
+        length: 0,
+    })
 }
 
 fn marked(flags: u8, weight: u8, set: bool) -> u8
@@ -122,7 +104,7 @@ impl StmtEntry {
                 index,
                 constant,
             } => Fields {
-                flags: marked(unread.flags, CONSTANT, constant),
+                flags: marked(unread.flags, Fields::CONSTANT, constant),
                 e: expr,
                 r: or_zero(index),
                 ..with_name(unread.row(4, at), name)
@@ -143,7 +125,7 @@ impl StmtEntry {
                 body,
                 negated,
             } => Fields {
-                flags: marked(unread.flags, NEGATED, negated),
+                flags: marked(unread.flags, Fields::NEGATED, negated),
                 e: expr,
                 p: reference(body),
                 ..unread.row(8, at)
@@ -164,7 +146,7 @@ impl StmtEntry {
                 }
             }
             Stmt::BreakLoop { expr, breaks } => Fields {
-                flags: marked(unread.flags, BREAK, breaks),
+                flags: marked(unread.flags, Fields::BREAK, breaks),
                 e: reference(expr),
                 ..unread.row(10, at)
             },
@@ -174,7 +156,7 @@ impl StmtEntry {
                 ..with_name(unread.row(11, at), name_fields(name, unread.name_offset))
             },
             Stmt::Return { expr, throws } => Fields {
-                flags: marked(unread.flags, BREAK, throws),
+                flags: marked(unread.flags, Fields::BREAK, throws),
                 e: reference(expr),
                 ..unread.row(12, at)
             },

@@ -4,35 +4,25 @@ ghost use Rattle.std.specs.Prelude.{◌≡◌, ℕ, ◌<◌};
 ghost use Rattle.sheet.specs.Ranges.{is_row, may_be_row, may_be_positive, is_name, may_be_name, is_free, stmt_fits, entry_fits, all_fit, in_range};
 
 use crate::sheet::{Sheet, StmtEntry};
-use image::{Name, Stmt};
+use image::{Fields, MOST_BLOCKS, MOST_EXPRESSIONS, MOST_STATEMENTS, MOST_TEXT, Name, Stmt};
 
-/// In the place of an expression or a block it stands for none, so it is no row's number.
-const NONE: u16 = 65535;
-
-const LARGEST_FLAGS: u8 = 15;
-
+/// In the place of an expression or a block `NONE` stands for none, so it is no row's number.
 fn is_row(n: u16) -> bool
     ensures { result ≡ is_row n }
 {
-    n < NONE
+    n < Fields::NONE
 }
 
 fn may_be_row(n: Option<u16>) -> bool
     ensures { result ≡ may_be_row n }
 {
-    match n {
-        Some(n) => is_row(n),
-        None => true,
-    }
+    n.is_none_or(is_row)
 }
 
 fn may_be_positive(n: Option<u16>) -> bool
     ensures { result ≡ may_be_positive n }
 {
-    match n {
-        Some(n) => n > 0,
-        None => true,
-    }
+    n.is_none_or(|n| n > 0)
 }
 
 fn is_name(name: Name) -> bool
@@ -44,10 +34,7 @@ fn is_name(name: Name) -> bool
 fn may_be_name(name: Option<Name>) -> bool
     ensures { result ≡ may_be_name name }
 {
-    match name {
-        Some(n) => is_name(n),
-        None => true,
-    }
+    name.is_none_or(is_name)
 }
 
 /// Whether a flag's bit is free for the statement's own.
@@ -76,21 +63,26 @@ fn stmt_fits(stmt: Stmt, flags: u8) -> bool
             expr,
             index,
             ..
-        } => is_name(name) && is_row(expr) && may_be_positive(index) && is_free(flags, 1),
+        } => is_name(name)
+            && is_row(expr)
+            && may_be_positive(index)
+            && is_free(flags, Fields::CONSTANT),
         Stmt::If { expr, body, branch } => is_row(expr) && may_be_row(body) && may_be_row(branch),
         Stmt::While { expr, body } => is_row(expr) && may_be_row(body),
-        Stmt::Do { expr, body, .. } => is_row(expr) && may_be_row(body) && is_free(flags, 4),
+        Stmt::Do { expr, body, .. } => is_row(expr)
+            && may_be_row(body)
+            && is_free(flags, Fields::NEGATED),
         Stmt::For {
             name,
             counter,
             expr,
             body,
         } => is_name(name) && may_be_name(counter) && is_row(expr) && may_be_row(body),
-        Stmt::BreakLoop { expr, .. } => may_be_row(expr) && is_free(flags, 8),
+        Stmt::BreakLoop { expr, .. } => may_be_row(expr) && is_free(flags, Fields::BREAK),
         Stmt::TryCatch { body, branch, name } => {
             may_be_row(body) && may_be_row(branch) && may_be_name(name)
         }
-        Stmt::Return { expr, .. } => may_be_row(expr) && is_free(flags, 8),
+        Stmt::Return { expr, .. } => may_be_row(expr) && is_free(flags, Fields::BREAK),
         Stmt::Import { expr, name } => is_row(expr) && may_be_name(name),
     }
 }
@@ -98,28 +90,23 @@ fn stmt_fits(stmt: Stmt, flags: u8) -> bool
 fn entry_fits(entry: StmtEntry) -> bool
     ensures { result ≡ entry_fits entry }
 {
-    entry.unread.flags <= LARGEST_FLAGS && stmt_fits(entry.row.stmt, entry.unread.flags)
+    entry.unread.flags <= Fields::LARGEST_FLAGS && stmt_fits(entry.row.stmt, entry.unread.flags)
 }
 
 fn all_fit(entries: &[StmtEntry]) -> bool
     ensures { result ≡ all_fit entries.now }
 {
-    for entry in entries {
-        if !entry_fits(*entry) {
-            return false;
-        }
-    }
-    true
+    entries.iter().all(|entry| entry_fits(*entry))
 }
 
 /// Whether the counts and the rows can be written.
 pub(crate) fn in_range(sheet: Sheet<'_>) -> bool
     ensures { result ≡ in_range sheet.entry }
 {
-    sheet.blocks.len() >= 1
-        && sheet.blocks.len() <= 256
-        && sheet.statements.len() <= 1024
-        && sheet.expressions.len() <= 1024
-        && sheet.text.len() <= 2048
+    !sheet.blocks.is_empty()
+        && sheet.blocks.len() <= MOST_BLOCKS
+        && sheet.statements.len() <= MOST_STATEMENTS
+        && sheet.expressions.len() <= MOST_EXPRESSIONS
+        && sheet.text.len() <= MOST_TEXT
         && all_fit(sheet.statements)
 }

@@ -2,7 +2,7 @@ use image::{Block, Expr, StmtRow};
 
 /// What stands in the fields of a statement row that its kind does not read. A name or a counter that is absent leaves its
 /// offset unread.
-#[derive(Clone, Copy)]
+#[derive(Clone, Copy, PartialEq, Eq, Debug)]
 pub struct Unread {
     /// The flags without the one that the kind reads, if it reads one.
     pub flags: u8,
@@ -16,14 +16,14 @@ pub struct Unread {
 }
 
 /// A statement row with all that stands in it.
-#[derive(Clone, Copy)]
+#[derive(Clone, Copy, PartialEq, Eq, Debug)]
 pub struct StmtEntry {
     pub row: StmtRow,
     pub unread: Unread,
 }
 
 /// An expression row with all that stands in it.
-#[derive(Clone, Copy)]
+#[derive(Clone, Copy, PartialEq, Eq, Debug)]
 pub struct ExprEntry {
     pub row: Expr,
     /// The byte behind the kind, which is never read.

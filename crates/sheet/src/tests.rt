@@ -51,10 +51,8 @@ fn writes_a_declaration(rt: HostRuntime) {
         expressions: &[FIVE],
         text: b"abcdefabc",
     };
-    match write(rt.alloc(), sheet) {
-        Ok(image) => assert!(rt; image.as_slice() == LET.as_slice(), "another image"),
-        Err(_) => assert!(rt; false, "no image"),
-    }
+    let image = write(rt.alloc(), sheet).expect(&rt, "no image");
+    assert_eq!(rt; image.as_slice(), LET.as_slice(), "another image");
 }
 
 /// Length 0 stands for no name.
@@ -66,6 +64,9 @@ fn refuses_a_declaration_of_no_name(rt: HostRuntime) {
         expressions: &[FIVE],
         text: b"abcdefabc",
     };
-    let refused = matches!(write(rt.alloc(), sheet), Err(Unwritten::Range));
-    assert!(rt; refused, "an image");
+    assert_eq!(rt;
+        write(rt.alloc(), sheet).err(),
+        Some(Unwritten::Range),
+        "an image"
+    );
 }

@@ -1,21 +1,43 @@
-ghost use Rattle.std.specs.Prelude.{◌≡◌, true, ◌++◌, IfOk, Ok, Err, OnOk};
+ghost use Rattle.std.specs.Prelude.{◌≡◌, true, ◌++◌, IfOk, OnOk, MatchResult};
 ghost use Rattle.std.specs.List.{flat_map};
 ghost use Rattle.rule.specs.Checked.{checked, examined};
 ghost use Rattle.sheet.specs.Images.{tables, written, ReadsAs, Fails};
 ghost use Rattle.sheet.specs.Ranges.{in_range};
+ghost use Rattle.sheet.specs.declared.writer.Unwritten.TheVariants.{Memory};
 
 use crate::bytes::{Written, header};
 use crate::range::in_range;
 use crate::sheet::Sheet;
 use std::alloc::{AllocError, Global};
+use std::error::Error;
+use std::fmt;
 
 /// Why there is no image.
-#[derive(Clone, Copy)]
+#[derive(Clone, Copy, PartialEq, Eq, Debug)]
 pub enum Unwritten {
     /// There are too many rows, no block or too much text, or a statement has a number that stands for none.
     Range,
     /// There is not enough memory.
     Memory,
+}
+
+impl fmt::Display for Unwritten {
+    fn fmt<W: fmt::Write>(&self, f: &mut fmt::Formatter<W>) -> fmt::Result {
+        f.write_str(match self {
+            Unwritten::Range => "rows that no image can hold",
+            Unwritten::Memory => "out of memory",
+        })
+    }
+}
+
+impl Error for Unwritten {}
+
+impl From<AllocError> for Unwritten {
+    ghost from_gives = { λ _ e. e ≡ Memory };
+
+    fn from(_e: AllocError) -> Unwritten {
+        Unwritten::Memory
+    }
 }
 
 fn put_all<R: Written>(image: &mut Vec<u8>, rows: &[R]) -> Result<(), AllocError>
@@ -58,13 +80,10 @@ pub fn write(heap: Global, sheet: Sheet<'_>) -> Result<Vec<u8>, Unwritten>
     ensures reads { IfOk result (λ v. ReadsAs v.items sheet.entry) }
     // Its header and counts are right, so only the rules of its rows can refuse it.
     ensures header { IfOk result (λ v. checked v.items ≡ examined v.items) }
-    ensures range { elim result [ Ok _ ↦ in_range sheet.entry ≡ true | Err e ↦ Fails sheet.entry e ] }
+    ensures range { MatchResult result (λ _. in_range sheet.entry ≡ true) (λ e. Fails sheet.entry e) }
 {
     if !in_range(sheet) {
         return Err(Unwritten::Range);
     }
-    match image_of(heap, sheet) {
-        Ok(image) => Ok(image),
-        Err(_) => Err(Unwritten::Memory),
-    }
+    Ok(image_of(heap, sheet)?)
 }

@@ -1,13 +1,12 @@
-use Rattle.sheet.proofs.Fitting.{fits_more, fits_no_more, fits_all}
+use Rattle.std.proofs.Common.{rules, ◌≡◌, true, false}
+use Rattle.std.proofs.lemmas.Iterator.{cases_from_all, YieldsList-from_slice}
+use borrow.Author.Tests.{tests}
+use Rattle.sheet.specs.Ranges.{entry_fits}
+use Rattle.sheet.proofs.Fitting.{all_settled}
 use Rattle.sheet.proofs.range.all_fit.Goals as goal
 
-pub returns-then-not-entry_fits : goal.returns-then-not-entry_fits
-returns-then-not-entry_fits c =
-    fits_no_more c.args.entries.now c.loop-entry.entry-index c.loop-entry.invariant _ c.loop-entry-test.true c.if-not-entry_fits.ensures
-
-pub loop-entry-preserved : goal.loop-entry-preserved
-loop-entry-preserved c =
-    fits_more c.args.entries.now c.loop-entry.entry-index c.loop-entry.invariant _ c.loop-entry-test.true c.if-not-entry_fits.ensures
-
 pub returns : goal.returns
-returns c = fits_all c.args.entries.now c.loop-entry.entry-index c.loop-entry.invariant c.loop-entry-test.false
+returns c =
+    all_settled c.args.entries.now c.all.result
+    (cases_from_all _ _ _ (λ x. entry_fits x ≡ true) (λ x. entry_fits x ≡ false) c.all.ensures.ran (YieldsList-from_slice c.args.entries.now cc)
+    (λ x q k. search (rules, tests)) (λ x q k. search (rules, tests)))

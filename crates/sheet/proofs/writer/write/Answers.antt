@@ -5,9 +5,9 @@ use Rattle.sheet.specs.Ranges.{in_range}
 use Rattle.sheet.proofs.Reading.{reads_as, header_back}
 use Rattle.sheet.proofs.writer.write.Goals as goal
 
-pub returns-in-Ok : goal.returns-in-Ok
-returns-in-Ok c =
+pub returns : goal.returns
+returns c =
     let x = c.args.sheet in
     let range : in_range x ≡ true = sym c.if-not-in_range.ensures in
-    let e : vec_items c.in-Ok.image ≡ written x = c.in-Ok.ensures in
+    let e : vec_items c.in_ok-image_of.field-0 ≡ written x = c.in_ok-image_of.ensures in
     record { bytes = e; reads = subst (λ v. ReadsAs v x) (sym e) (reads_as x range); header = subst (λ v. checked v ≡ examined v) (sym e) (header_back x range); range = range }
