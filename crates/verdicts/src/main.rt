@@ -4,12 +4,16 @@
 //! repeated. A line with a name alone has an empty image.
 #![tactic(auto)]
 
-use anyhow::anyhow;
-use std::alloc::{AllocError, Global};
+ghost use Rattle.std.specs.Prelude.{◌<◌, IfSome};
+
+use anyhow::Context;
+use std::alloc::Global;
 use std::io::{BufRead, BufReader};
 use verdict::judge;
 
-fn digit(b: u8) -> Option<u8> {
+fn digit(b: u8) -> Option<u8>
+    ensures { IfSome result (λ d. d < 16) }
+{
     match b {
         b'0'..=b'9' => Some(b - b'0'),
         b'a'..=b'f' => Some(b - b'a' + 10),
@@ -17,23 +21,12 @@ fn digit(b: u8) -> Option<u8> {
     }
 }
 
-/// The bytes of a segment, once; none where it is no hexadecimal.
-fn bytes_of(heap: Global, hex: &str) -> Result<Option<Vec<u8>>, AllocError> {
-    let mut bytes = Vec::new(heap);
-    let mut high = None;
-    for b in hex.bytes() {
-        let Some(d) = digit(b) else {
-            return Ok(None);
-        };
-        match high {
-            None => high = Some(d),
-            Some(h) => {
-                bytes.push((h & 15) * 16 + (d & 15))?;
-                high = None;
-            }
-        }
-    }
-    Ok(if high.is_none() { Some(bytes) } else { None })
+/// The byte of two hexadecimal digits.
+fn byte_of(pair: &[u8]) -> Option<u8> {
+    let [high, low] = pair else {
+        return None;
+    };
+    Some(digit(*high)? * 16 + digit(*low)?)
 }
 
 fn push_segment(heap: Global, image: &mut Vec<u8>, segment: &str) -> anyhow::Result<()> {
@@ -41,9 +34,10 @@ fn push_segment(heap: Global, image: &mut Vec<u8>, segment: &str) -> anyhow::Res
         Some((hex, count)) => (hex, count.parse::<u32>()?),
         None => (segment, 1),
     };
-    let Some(bytes) = bytes_of(heap, hex)? else {
-        return Err(anyhow!("a segment is not hexadecimal"));
-    };
+    let mut bytes = Vec::new(heap);
+    for pair in hex.as_bytes().chunks(2) {
+        bytes.push(byte_of(pair).context("a segment is not hexadecimal")?)?;
+    }
     for _ in 0..count {
         image.extend_from_slice(bytes.as_slice())?;
     }
@@ -54,9 +48,7 @@ fn push_segment(heap: Global, image: &mut Vec<u8>, segment: &str) -> anyhow::Res
 fn print_verdict(rt: &HostRuntime, line: &str) -> anyhow::Result<()> {
     let heap = rt.alloc();
     let mut words = line.split(' ');
-    let Some(name) = words.next() else {
-        return Err(anyhow!("a line is empty"));
-    };
+    let name = words.next().context("a line is empty")?;
     let mut image = Vec::new(heap);
     for segment in words {
         push_segment(heap, &mut image, segment)?;
