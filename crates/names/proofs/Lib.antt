@@ -1,2 +1,1 @@
 pub mod LastRow
-mod Blanking

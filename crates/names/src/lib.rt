@@ -19,38 +19,14 @@ pub fn append<R: Copy>(rows: &mut [R], used: usize, row: R) -> Option<usize>
     Some(used + 1)
 }
 
-/// The last of the first `n` rows whose name has these bytes.
-fn search_below<R: Named>(rows: &[R], n: usize, name: &[u8], texts: Texts<'_>) -> Option<usize>
-    requires { n ≤ length rows.now }
-    ensures value { result ≡ last_named (name_in R.Named.place texts.entry.rule.now texts.entry.site.now) name.now (take n rows.now) }
-    ensures last { LastNamed (name_in R.Named.place texts.entry.rule.now texts.entry.site.now) name.now (take n rows.now) result }
-{
-    let mut i = n;
-    while i > 0 {
-        i -= 1;
-        if rows[i].place().text(texts) == name {
-            return Some(i);
-        }
-    }
-    None
-}
-
 /// The last row in use whose name has these bytes; none exactly if no row in use has them.
 pub fn search<R: Named>(rows: &[R], used: usize, name: &[u8], texts: Texts<'_>) -> Option<usize>
     ensures value { result ≡ last_named (name_in R.Named.place texts.entry.rule.now texts.entry.site.now) name.now (in_use rows.now used) }
     ensures last { LastNamed (name_in R.Named.place texts.entry.rule.now texts.entry.site.now) name.now (in_use rows.now used) result }
 {
-    search_below(rows, used.min(rows.len()), name, texts)
-}
-
-/// Writes the rows from `from` up to `to` blank.
-fn wipe<R: Blank + Copy>(rows: &mut [R], from: usize, to: usize)
-    requires { (from ≤ to) × (to ≤ length rows.old) }
-    ensures { rows.new ≡ wiped R.Blank.blank rows.old from to }
-{
-    for i in from..to {
-        rows[i] = R::blank();
-    }
+    rows[..used.min(rows.len())]
+        .iter()
+        .rposition(|row| row.place().text(texts) == name)
 }
 
 /// Gives up the rows in use from `n` on. Where no more than `n` are in use, or more than there are, it does nothing.
@@ -61,6 +37,8 @@ pub fn rewind<R: Blank + Copy>(rows: &mut [R], used: usize, n: usize) -> usize
     if used > rows.len() || used <= n {
         return used;
     }
-    wipe(rows, n, used);
+    for row in &mut rows[n..used] {
+        *row = R::blank();
+    }
     n
 }
