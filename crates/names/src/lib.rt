@@ -1,7 +1,7 @@
 //! A list of named rows, on rows that the caller lends with the number of those in use.
 #![tactic(auto)]
 
-ghost use Rattle.std.specs.Prelude.{◌≡◌, ℕ, ◌<◌, ◌≤◌, length, take};
+ghost use Rattle.std.specs.Prelude.{◌≡◌};
 ghost use Rattle.rows.specs.Rows.{in_use};
 ghost use Rattle.names.specs.Lists.{appended, lengthened, last_named, LastNamed, name_in, wiped, rewound, shortened};
 
@@ -19,12 +19,19 @@ pub fn append<R: Copy>(rows: &mut [R], used: usize, row: R) -> Option<usize>
     Some(used + 1)
 }
 
+/// The rows in use; a number past the rows counts as all of them.
+fn rows_in_use<R>(rows: &[R], used: usize) -> &[R]
+    ensures { result.now ≡ in_use rows.now used }
+{
+    &rows[..used.min(rows.len())]
+}
+
 /// The last row in use whose name has these bytes; none exactly if no row in use has them.
 pub fn search<R: Named>(rows: &[R], used: usize, name: &[u8], texts: Texts<'_>) -> Option<usize>
     ensures value { result ≡ last_named (name_in R.Named.place texts.entry.rule.now texts.entry.site.now) name.now (in_use rows.now used) }
     ensures last { LastNamed (name_in R.Named.place texts.entry.rule.now texts.entry.site.now) name.now (in_use rows.now used) result }
 {
-    rows[..used.min(rows.len())]
+    rows_in_use(rows, used)
         .iter()
         .rposition(|row| row.place().text(texts) == name)
 }
