@@ -6,9 +6,11 @@ ghost use Rattle.outcome.specs.Faults.{number, catchable, outcome_number, refusa
 
 use image::Position;
 use rows::Place;
+use std::error::Error;
+use std::fmt;
 
 /// A fault of a statement.
-#[derive(Clone, Copy)]
+#[derive(Clone, Copy, PartialEq, Eq, Debug)]
 pub enum RunFault<V> {
     /// The host said no to this name.
     NotAllowed(Place),
@@ -33,14 +35,14 @@ pub enum RunFault<V> {
 }
 
 /// A fault with its position. Line 0 and column 0 are no position.
-#[derive(Clone, Copy)]
+#[derive(Clone, Copy, PartialEq, Eq, Debug)]
 pub struct Failure<V> {
     pub fault: RunFault<V>,
     pub at: Position,
 }
 
 /// How a run ends.
-#[derive(Clone, Copy)]
+#[derive(Clone, Copy, PartialEq, Eq, Debug)]
 pub enum Outcome<V> {
     Value(V),
     /// A charge passed the limit of operations, at this position.
@@ -50,17 +52,18 @@ pub enum Outcome<V> {
     Exited { value: V, at: Position },
 }
 
-/// Why a call of a session is refused. The reasons are tested in this order, and a refused call changes nothing.
-#[derive(Clone, Copy)]
+/// Why a call of a session is refused, with the number that it is told by. The reasons are tested in this order, and a
+/// refused call changes nothing.
+#[derive(Clone, Copy, PartialEq, Eq, Debug)]
 pub enum SessionRefusal {
     /// A limit is out of its range.
-    Limits,
+    Limits = 8,
     /// Too few rows are lent.
-    Rows,
+    Rows = 9,
     /// A name is empty, or outside the site's text.
-    Name,
+    Name = 10,
     /// There are as many names as the limit allows.
-    Full,
+    Full = 11,
 }
 
 impl SessionRefusal {
@@ -68,14 +71,22 @@ impl SessionRefusal {
     pub fn number(self) -> u8
         ensures { result ≡ refusal_number self }
     {
-        match self {
-            SessionRefusal::Limits => 8,
-            SessionRefusal::Rows => 9,
-            SessionRefusal::Name => 10,
-            SessionRefusal::Full => 11,
-        }
+        self as u8
     }
 }
+
+impl fmt::Display for SessionRefusal {
+    fn fmt<W: fmt::Write>(&self, f: &mut fmt::Formatter<W>) -> fmt::Result {
+        f.write_str(match self {
+            SessionRefusal::Limits => "a limit is out of its range",
+            SessionRefusal::Rows => "too few rows are lent",
+            SessionRefusal::Name => "a name is empty, or outside the site's text",
+            SessionRefusal::Full => "there are as many names as the limit allows",
+        })
+    }
+}
+
+impl Error for SessionRefusal {}
 
 impl<V: Copy> Outcome<V> {
     /// The number of the fault that ended the run, and 0 for a value.
