@@ -1,10 +1,10 @@
 //! The row that is written behind those in use.
 
-use crate::kinds::{Sample, all_agree, samples};
+use crate::kinds::{Sample, samples};
 use crate::places::{FEED_IN_SITE, LO_IN_SITE, LOAD_IN_RULE, LOAD_IN_SITE, texts};
-use crate::tally::Tally;
+use crate::tally::{Section, Tally};
 use names::{append, search};
-use rows::{Named, Place};
+use rows::Place;
 use std::alloc::{AllocError, Global};
 
 /// How many of three rows are in use, and what comes of a further one.
@@ -49,7 +49,7 @@ static CASES: [AppendCase; 6] = [
     },
     AppendCase {
         name: "the largest number in use",
-        used: 18_446_744_073_709_551_615,
+        used: usize::MAX,
         answer: None,
         written: None,
     },
@@ -66,9 +66,9 @@ fn appended<R: Sample>() -> R {
 fn rows_after<R: Sample>(heap: Global, written: Option<usize>) -> Result<Vec<R>, AllocError> {
     let mut rows = samples::<R>(heap, &NAMES)?;
     if let Some(i) = written
-        && i < rows.len()
+        && let Some(row) = rows.get_mut(i)
     {
-        rows[i] = appended();
+        *row = appended();
     }
     Ok(rows)
 }
@@ -77,7 +77,7 @@ fn passes<R: Sample>(heap: Global, case: &AppendCase) -> Result<bool, AllocError
     let mut rows = samples::<R>(heap, &NAMES)?;
     let after = rows_after::<R>(heap, case.written)?;
     let answer = append(rows.as_mut_slice(), case.used, appended());
-    Ok(answer == case.answer && all_agree(rows.as_slice(), after.as_slice()))
+    Ok(answer == case.answer && rows == after)
 }
 
 /// A list without rows has no room.
@@ -87,38 +87,26 @@ fn refuses_without_rows<R: Sample>(heap: Global) -> bool {
 }
 
 /// A row that was appended is found, and hides an earlier one of its name.
-fn is_found<R: Sample + Named>(heap: Global) -> Result<bool, AllocError> {
+fn is_found<R: Sample>(heap: Global) -> Result<bool, AllocError> {
     let mut rows = samples::<R>(heap, &NAMES)?;
-    Ok(match append(rows.as_mut_slice(), 1, appended()) {
-        Some(used) => search(rows.as_slice(), used, b"load", texts()) == Some(1),
-        None => false,
-    })
+    let answer = append(rows.as_mut_slice(), 1, appended());
+    Ok(answer.is_some_and(|used| search(rows.as_slice(), used, b"load", texts()) == Some(1)))
 }
 
 /// A row that had no room is not found.
-fn is_not_found<R: Sample + Named>(heap: Global) -> Result<bool, AllocError> {
+fn is_not_found<R: Sample>(heap: Global) -> Result<bool, AllocError> {
     let mut rows = samples::<R>(heap, &NAMES)?;
     let answer = append(rows.as_mut_slice(), 3, appended());
     Ok(answer.is_none() && search(rows.as_slice(), 3, b"load", texts()) == Some(0))
 }
 
-pub fn judge<R: Sample + Named>(
-    rt: &HostRuntime,
-    tally: &mut Tally,
-    kind: &str,
-) -> anyhow::Result<()> {
-    let call = "append to";
+pub fn judge<R: Sample>(rt: &HostRuntime, tally: &mut Tally) -> anyhow::Result<()> {
     let heap = rt.alloc();
-    for case in CASES.iter() {
-        tally.note(rt, call, kind, case.name, passes::<R>(heap, case)?)?;
+    let mut section = Section::new(rt, tally, "append to", R::KIND);
+    for case in &CASES {
+        section.note(case.name, passes::<R>(heap, case)?)?;
     }
-    tally.note(rt, call, kind, "no rows", refuses_without_rows::<R>(heap))?;
-    tally.note(rt, call, kind, "then a search", is_found::<R>(heap)?)?;
-    tally.note(
-        rt,
-        call,
-        kind,
-        "no room, then a search",
-        is_not_found::<R>(heap)?,
-    )
+    section.note("no rows", refuses_without_rows::<R>(heap))?;
+    section.note("then a search", is_found::<R>(heap)?)?;
+    section.note("no room, then a search", is_not_found::<R>(heap)?)
 }

@@ -2,8 +2,7 @@
 
 ghost use Rattle.name_cases.specs.declared.kinds.Level.TheVariants.{Off};
 
-use crate::places::NO_NAME;
-use rows::{Access, ImportRow, Named, Place, Source, Unital, VarRow};
+use rows::{Access, Blank, ImportRow, Named, Place, Unital, VarRow};
 use std::alloc::{AllocError, Global};
 
 /// The values of the variables.
@@ -22,85 +21,46 @@ impl Unital for Level {
 }
 
 /// A kind of rows, with what a case has to know of it.
-pub trait Sample: Copy {
+pub trait Sample: Blank + Named + Copy + PartialEq {
+    /// What the rows are called in the lines of the cases.
+    const KIND: &'static str;
+
     /// A row of this name that differs from those of other numbers, and from a blank one.
     fn sample(place: Place, number: u32) -> Self;
 
     /// The blank row, written out as the rules have it.
     fn blank_row() -> Self;
-
-    /// Whether two rows agree in all that they hold.
-    fn agrees(&self, other: &Self) -> bool;
-}
-
-fn same_source(a: Source, b: Source) -> bool {
-    match (a, b) {
-        (Source::Rule, Source::Rule) | (Source::Site, Source::Site) => true,
-        (Source::Rule, Source::Site) | (Source::Site, Source::Rule) => false,
-    }
-}
-
-fn same_place(a: Place, b: Place) -> bool {
-    same_source(a.source, b.source) && a.offset == b.offset && a.length == b.length
-}
-
-fn same_access(a: Access, b: Access) -> bool {
-    match (a, b) {
-        (Access::ReadWrite, Access::ReadWrite) | (Access::Constant, Access::Constant) => true,
-        (Access::ReadWrite, Access::Constant) | (Access::Constant, Access::ReadWrite) => false,
-    }
 }
 
 impl Sample for VarRow<Level> {
+    const KIND: &'static str = "variables";
+
     fn sample(place: Place, number: u32) -> VarRow<Level> {
         VarRow::new(place, Access::Constant, Level::Watts(number))
     }
 
     fn blank_row() -> VarRow<Level> {
-        VarRow::new(NO_NAME, Access::ReadWrite, Level::Off)
-    }
-
-    fn agrees(&self, other: &VarRow<Level>) -> bool {
-        same_place(self.place(), other.place())
-            && same_access(self.access(), other.access())
-            && self.value() == other.value()
+        VarRow::new(Place::NONE, Access::ReadWrite, Level::Off)
     }
 }
 
 impl Sample for ImportRow {
+    const KIND: &'static str = "imports";
+
     fn sample(place: Place, number: u32) -> ImportRow {
         ImportRow::new(place, number)
     }
 
     fn blank_row() -> ImportRow {
-        ImportRow::new(NO_NAME, 0)
-    }
-
-    fn agrees(&self, other: &ImportRow) -> bool {
-        same_place(self.place(), other.place()) && self.module() == other.module()
+        ImportRow::new(Place::NONE, 0)
     }
 }
 
 /// Rows of these names, in their order, each with a number of its own.
 pub fn samples<R: Sample>(heap: Global, places: &[Place]) -> Result<Vec<R>, AllocError> {
-    let mut rows = Vec::new(heap);
-    let mut number = 10u32;
-    for place in places {
-        rows.push(R::sample(*place, number))?;
-        number = number.saturating_add(1);
-    }
-    Ok(rows)
-}
-
-/// Whether two lists have the same rows.
-pub fn all_agree<R: Sample>(rows: &[R], others: &[R]) -> bool {
-    if rows.len() != others.len() {
-        return false;
-    }
-    for (row, other) in rows.iter().zip(others.iter()) {
-        if !row.agrees(other) {
-            return false;
-        }
-    }
-    true
+    places
+        .iter()
+        .zip(10..)
+        .map(|(place, number)| R::sample(*place, number))
+        .collect(heap)
 }

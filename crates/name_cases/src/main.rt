@@ -13,14 +13,14 @@ use rows::{ImportRow, VarRow};
 use tally::Tally;
 
 fn run(rt: &HostRuntime) -> anyhow::Result<()> {
-    let mut tally = Tally::new();
+    let mut tally = Tally::default();
     places::judge(rt, &mut tally)?;
-    searches::judge::<VarRow<Level>>(rt, &mut tally, "variables")?;
-    searches::judge::<ImportRow>(rt, &mut tally, "imports")?;
-    appends::judge::<VarRow<Level>>(rt, &mut tally, "variables")?;
-    appends::judge::<ImportRow>(rt, &mut tally, "imports")?;
-    rewinds::judge::<VarRow<Level>>(rt, &mut tally, "variables")?;
-    rewinds::judge::<ImportRow>(rt, &mut tally, "imports")?;
+    searches::judge::<VarRow<Level>>(rt, &mut tally)?;
+    searches::judge::<ImportRow>(rt, &mut tally)?;
+    appends::judge::<VarRow<Level>>(rt, &mut tally)?;
+    appends::judge::<ImportRow>(rt, &mut tally)?;
+    rewinds::judge::<VarRow<Level>>(rt, &mut tally)?;
+    rewinds::judge::<ImportRow>(rt, &mut tally)?;
     tally.print(rt)
 }
 

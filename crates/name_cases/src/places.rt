@@ -1,7 +1,18 @@
 //! The two texts, the places that the cases use, and what each place reads as.
 
-use crate::tally::Tally;
+use crate::tally::{Section, Tally};
 use rows::{Place, Source, Texts};
+
+/// A place in one of the two texts, by its offset and its length.
+macro_rules! place {
+    ($source:ident, $offset:expr, $length:expr) => {
+        Place {
+            source: Source::$source,
+            offset: $offset,
+            length: $length,
+        }
+    };
+}
 
 const RULE: &str = "loadfeed";
 
@@ -14,106 +25,39 @@ pub fn texts() -> Texts<'static> {
     }
 }
 
-pub const LOAD_IN_RULE: Place = Place {
-    source: Source::Rule,
-    offset: 0,
-    length: 4,
-};
+pub const LOAD_IN_RULE: Place = place!(Rule, 0, 4);
 
-pub const FEED_IN_RULE: Place = Place {
-    source: Source::Rule,
-    offset: 4,
-    length: 4,
-};
+pub const FEED_IN_RULE: Place = place!(Rule, 4, 4);
 
-pub const FEED_IN_SITE: Place = Place {
-    source: Source::Site,
-    offset: 0,
-    length: 4,
-};
+pub const FEED_IN_SITE: Place = place!(Site, 0, 4);
 
-pub const LOAD_IN_SITE: Place = Place {
-    source: Source::Site,
-    offset: 4,
-    length: 4,
-};
+pub const LOAD_IN_SITE: Place = place!(Site, 4, 4);
 
 /// The name `lo`, at the very end of its text.
-pub const LO_IN_SITE: Place = Place {
-    source: Source::Site,
-    offset: 8,
-    length: 2,
-};
-
-/// What stands for no name.
-pub const NO_NAME: Place = Place {
-    source: Source::Rule,
-    offset: 0,
-    length: 0,
-};
+pub const LO_IN_SITE: Place = place!(Site, 8, 2);
 
 /// A place whose last byte is one past the rule's text.
-pub const PAST_RULE: Place = Place {
-    source: Source::Rule,
-    offset: 5,
-    length: 4,
-};
+pub const PAST_RULE: Place = place!(Rule, 5, 4);
 
 /// The place of `lo`, but in the rule's text, which ends before it.
-const LO_IN_RULE: Place = Place {
-    source: Source::Rule,
-    offset: 8,
-    length: 2,
-};
+const LO_IN_RULE: Place = place!(Rule, 8, 2);
 
-const ALL_OF_RULE: Place = Place {
-    source: Source::Rule,
-    offset: 0,
-    length: 8,
-};
+const ALL_OF_RULE: Place = place!(Rule, 0, 8);
 
-const ONE_MORE_THAN_RULE: Place = Place {
-    source: Source::Rule,
-    offset: 0,
-    length: 9,
-};
+const ONE_MORE_THAN_RULE: Place = place!(Rule, 0, 9);
 
-const BEHIND_RULE: Place = Place {
-    source: Source::Rule,
-    offset: 9,
-    length: 1,
-};
+const BEHIND_RULE: Place = place!(Rule, 9, 1);
 
-const EMPTY_INSIDE: Place = Place {
-    source: Source::Rule,
-    offset: 3,
-    length: 0,
-};
+const EMPTY_INSIDE: Place = place!(Rule, 3, 0);
 
-const EMPTY_AT_END: Place = Place {
-    source: Source::Site,
-    offset: 10,
-    length: 0,
-};
+const EMPTY_AT_END: Place = place!(Site, 10, 0);
 
-const EMPTY_BEHIND: Place = Place {
-    source: Source::Site,
-    offset: 11,
-    length: 0,
-};
+const EMPTY_BEHIND: Place = place!(Site, 11, 0);
 
-const FARTHEST: Place = Place {
-    source: Source::Site,
-    offset: 4_294_967_295,
-    length: 4_294_967_295,
-};
+const FARTHEST: Place = place!(Site, u32::MAX, u32::MAX);
 
 /// A place whose end is 1 in a sum of 32 bits.
-const WRAPS: Place = Place {
-    source: Source::Rule,
-    offset: 4_294_967_293,
-    length: 4,
-};
+const WRAPS: Place = place!(Rule, u32::MAX - 2, 4);
 
 /// A place, and what it reads as.
 struct PlaceCase {
@@ -155,7 +99,7 @@ static CASES: [PlaceCase; 16] = [
     },
     PlaceCase {
         name: "no name",
-        place: NO_NAME,
+        place: Place::NONE,
         text: "",
     },
     PlaceCase {
@@ -205,36 +149,42 @@ static CASES: [PlaceCase; 16] = [
     },
 ];
 
-/// Every place reads as empty where both texts are.
-fn print_in_empty_texts(rt: &HostRuntime, tally: &mut Tally) -> anyhow::Result<()> {
+static IN_NO_TEXTS: [PlaceCase; 3] = [
+    PlaceCase {
+        name: "a name of the rule, no texts",
+        place: LOAD_IN_RULE,
+        text: "",
+    },
+    PlaceCase {
+        name: "a name of the site, no texts",
+        place: LOAD_IN_SITE,
+        text: "",
+    },
+    PlaceCase {
+        name: "no name, no texts",
+        place: Place::NONE,
+        text: "",
+    },
+];
+
+fn judge_all(
+    section: &mut Section<'_>,
+    texts: Texts<'_>,
+    cases: &[PlaceCase],
+) -> anyhow::Result<()> {
+    for case in cases {
+        let passes = case.place.text(texts) == case.text.as_bytes();
+        section.note(case.name, passes)?;
+    }
+    Ok(())
+}
+
+pub fn judge(rt: &HostRuntime, tally: &mut Tally) -> anyhow::Result<()> {
+    let mut section = Section::new(rt, tally, "text of", "a place");
+    judge_all(&mut section, texts(), &CASES)?;
     let empty = Texts {
         rule: b"",
         site: b"",
     };
-    let in_rule = LOAD_IN_RULE.text(empty).is_empty();
-    let in_site = LOAD_IN_SITE.text(empty).is_empty();
-    let none = NO_NAME.text(empty).is_empty();
-    tally.note(
-        rt,
-        "text of",
-        "a place",
-        "a name of the rule, no texts",
-        in_rule,
-    )?;
-    tally.note(
-        rt,
-        "text of",
-        "a place",
-        "a name of the site, no texts",
-        in_site,
-    )?;
-    tally.note(rt, "text of", "a place", "no name, no texts", none)
-}
-
-pub fn judge(rt: &HostRuntime, tally: &mut Tally) -> anyhow::Result<()> {
-    for case in CASES.iter() {
-        let passes = case.place.text(texts()) == case.text.as_bytes();
-        tally.note(rt, "text of", "a place", case.name, passes)?;
-    }
-    print_in_empty_texts(rt, tally)
+    judge_all(&mut section, empty, &IN_NO_TEXTS)
 }

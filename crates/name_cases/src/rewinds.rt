@@ -1,10 +1,10 @@
 //! The rows that are given up.
 
-use crate::kinds::{Sample, all_agree, samples};
+use crate::kinds::{Sample, samples};
 use crate::places::{FEED_IN_RULE, FEED_IN_SITE, LOAD_IN_RULE, LOAD_IN_SITE, texts};
-use crate::tally::Tally;
+use crate::tally::{Section, Tally};
 use names::{rewind, search};
-use rows::{Blank, Named, Place};
+use rows::Place;
 use std::alloc::{AllocError, Global};
 
 /// How many of four rows are in use, from where they are given up, and what comes of it.
@@ -63,7 +63,7 @@ static CASES: [RewindCase; 10] = [
     RewindCase {
         name: "far past those in use",
         used: 4,
-        from: 18_446_744_073_709_551_615,
+        from: usize::MAX,
         answer: 4,
         blank: [false, false, false, false],
     },
@@ -83,9 +83,9 @@ static CASES: [RewindCase; 10] = [
     },
     RewindCase {
         name: "the largest number in use",
-        used: 18_446_744_073_709_551_615,
+        used: usize::MAX,
         from: 0,
-        answer: 18_446_744_073_709_551_615,
+        answer: usize::MAX,
         blank: [false, false, false, false],
     },
 ];
@@ -95,28 +95,28 @@ static NAMES: [Place; 4] = [LOAD_IN_RULE, FEED_IN_SITE, LOAD_IN_SITE, FEED_IN_RU
 /// The rows as a case is to leave them.
 fn rows_after<R: Sample>(heap: Global, blank: &[bool]) -> Result<Vec<R>, AllocError> {
     let before = samples::<R>(heap, &NAMES)?;
-    let mut rows = Vec::new(heap);
-    for (row, blank) in before.iter().zip(blank.iter()) {
-        rows.push(if *blank { R::blank_row() } else { *row })?;
-    }
-    Ok(rows)
+    before
+        .iter()
+        .zip(blank)
+        .map(|(row, blank)| if *blank { R::blank_row() } else { *row })
+        .collect(heap)
 }
 
-fn passes<R: Sample + Blank>(heap: Global, case: &RewindCase) -> Result<bool, AllocError> {
+fn passes<R: Sample>(heap: Global, case: &RewindCase) -> Result<bool, AllocError> {
     let mut rows = samples::<R>(heap, &NAMES)?;
     let after = rows_after::<R>(heap, &case.blank)?;
     let answer = rewind(rows.as_mut_slice(), case.used, case.from);
-    Ok(answer == case.answer && all_agree(rows.as_slice(), after.as_slice()))
+    Ok(answer == case.answer && rows == after)
 }
 
 /// Of a list without rows there is nothing to give up.
-fn leaves_no_rows<R: Sample + Blank>(heap: Global) -> bool {
+fn leaves_no_rows<R: Sample>(heap: Global) -> bool {
     let mut rows = Vec::<R>::new(heap);
     rewind(rows.as_mut_slice(), 0, 0) == 0 && rewind(rows.as_mut_slice(), 2, 1) == 2
 }
 
 /// Rows that hid others are given up, so that the others are found again.
-fn uncovers<R: Sample + Blank + Named>(heap: Global) -> Result<bool, AllocError> {
+fn uncovers<R: Sample>(heap: Global) -> Result<bool, AllocError> {
     let mut rows = samples::<R>(heap, &NAMES)?;
     let used = rewind(rows.as_mut_slice(), 4, 2);
     let load = search(rows.as_slice(), used, b"load", texts());
@@ -125,7 +125,7 @@ fn uncovers<R: Sample + Blank + Named>(heap: Global) -> Result<bool, AllocError>
 }
 
 /// A blank row has no name: it is found by empty bytes, where it counts as in use, and its old name is gone.
-fn blank_has_no_name<R: Sample + Blank + Named>(heap: Global) -> Result<bool, AllocError> {
+fn blank_has_no_name<R: Sample>(heap: Global) -> Result<bool, AllocError> {
     let mut rows = samples::<R>(heap, &NAMES)?;
     let used = rewind(rows.as_mut_slice(), 4, 0);
     let load = search(rows.as_slice(), 4, b"load", texts());
@@ -133,17 +133,13 @@ fn blank_has_no_name<R: Sample + Blank + Named>(heap: Global) -> Result<bool, Al
     Ok(used == 0 && load.is_none() && empty == Some(3))
 }
 
-pub fn judge<R: Sample + Blank + Named>(
-    rt: &HostRuntime,
-    tally: &mut Tally,
-    kind: &str,
-) -> anyhow::Result<()> {
-    let call = "rewind of";
+pub fn judge<R: Sample>(rt: &HostRuntime, tally: &mut Tally) -> anyhow::Result<()> {
     let heap = rt.alloc();
-    for case in CASES.iter() {
-        tally.note(rt, call, kind, case.name, passes::<R>(heap, case)?)?;
+    let mut section = Section::new(rt, tally, "rewind of", R::KIND);
+    for case in &CASES {
+        section.note(case.name, passes::<R>(heap, case)?)?;
     }
-    tally.note(rt, call, kind, "no rows", leaves_no_rows::<R>(heap))?;
-    tally.note(rt, call, kind, "then a search", uncovers::<R>(heap)?)?;
-    tally.note(rt, call, kind, "blank rows", blank_has_no_name::<R>(heap)?)
+    section.note("no rows", leaves_no_rows::<R>(heap))?;
+    section.note("then a search", uncovers::<R>(heap)?)?;
+    section.note("blank rows", blank_has_no_name::<R>(heap)?)
 }

@@ -1,10 +1,8 @@
 //! The search by name, from the last row in use.
 
 use crate::kinds::{Sample, samples};
-use crate::places::{
-    FEED_IN_RULE, FEED_IN_SITE, LOAD_IN_RULE, LOAD_IN_SITE, NO_NAME, PAST_RULE, texts,
-};
-use crate::tally::Tally;
+use crate::places::{FEED_IN_RULE, FEED_IN_SITE, LOAD_IN_RULE, LOAD_IN_SITE, PAST_RULE, texts};
+use crate::tally::{Section, Tally};
 use names::search;
 use rows::{Named, Place};
 
@@ -20,7 +18,7 @@ static NAMES: [Place; 6] = [
     LOAD_IN_RULE,
     FEED_IN_SITE,
     LOAD_IN_SITE,
-    NO_NAME,
+    Place::NONE,
     PAST_RULE,
     FEED_IN_RULE,
 ];
@@ -82,7 +80,7 @@ static CASES: [SearchCase; 17] = [
     },
     SearchCase {
         name: "the largest number in use",
-        used: 18_446_744_073_709_551_615,
+        used: usize::MAX,
         sought: "load",
         found: Some(2),
     },
@@ -152,26 +150,20 @@ static IN_NO_ROWS: [SearchCase; 3] = [
 ];
 
 fn judge_all<R: Named>(
-    rt: &HostRuntime,
-    tally: &mut Tally,
-    kind: &str,
+    section: &mut Section<'_>,
     rows: &[R],
     cases: &[SearchCase],
 ) -> anyhow::Result<()> {
     for case in cases {
         let found = search(rows, case.used, case.sought.as_bytes(), texts());
-        tally.note(rt, "search of", kind, case.name, found == case.found)?;
+        section.note(case.name, found == case.found)?;
     }
     Ok(())
 }
 
-pub fn judge<R: Sample + Named>(
-    rt: &HostRuntime,
-    tally: &mut Tally,
-    kind: &str,
-) -> anyhow::Result<()> {
+pub fn judge<R: Sample>(rt: &HostRuntime, tally: &mut Tally) -> anyhow::Result<()> {
     let rows = samples::<R>(rt.alloc(), &NAMES)?;
-    let none = samples::<R>(rt.alloc(), &[])?;
-    judge_all(rt, tally, kind, rows.as_slice(), &CASES)?;
-    judge_all(rt, tally, kind, none.as_slice(), &IN_NO_ROWS)
+    let mut section = Section::new(rt, tally, "search of", R::KIND);
+    judge_all(&mut section, rows.as_slice(), &CASES)?;
+    judge_all::<R>(&mut section, &[], &IN_NO_ROWS)
 }
