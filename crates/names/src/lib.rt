@@ -3,7 +3,7 @@
 
 ghost use Rattle.std.specs.Prelude.{◌≡◌};
 ghost use Rattle.rows.specs.Rows.{in_use};
-ghost use Rattle.names.specs.Lists.{appended, lengthened, last_named, LastNamed, name_in, wiped, rewound, shortened};
+ghost use Rattle.names.specs.Lists.{appended, lengthened, last_named, LastNamed, name_in, rewound, shortened};
 
 use rows::{Blank, Named, Texts};
 
