@@ -1,5 +1,5 @@
 -- the site host keeps the rules of every host
-use Rattle.std.specs.Prelude.{◌≡◌, ℕ, Bool, true, false, cond, List, Some, None, ◌≢◌, nat_le, refl}
+use Rattle.std.specs.Prelude.{◌≡◌, ℕ, Bool, true, false, cond, List, Some, None, Ok, Err, ◌≢◌, nat_le, refl}
 use Rattle.std.proofs.Common.{arith}
 use Rattle.std.proofs.lemmas.Bool.{le-leb, cond-true}
 use Rattle.host.specs.declared.answers.NoItem.TheVariants as no_item
@@ -12,11 +12,11 @@ use Rattle.site.specs.Meaning.{site_meaning}
 use Rattle.site.specs.Questions.{item_of}
 
 -- an item and an end both say that a value is iterable
-apart : (b : Bool) (v : SiteValue) → cond b (item.Item v) item.End ≢ item.NotIterable
+apart : (b : Bool) (v : SiteValue) → cond b (Ok (Some v)) (Ok None) ≢ Err no_item.NotIterable
 apart true v e = let z : ◌≡◌ {A = ℕ} 0 1 = cc in omega arith
 apart false v e = let z : ◌≡◌ {A = ℕ} 0 1 = cc in omega arith
 
-same_at_all : (v : SiteValue) (i j : ℕ) → item_of v i ≡ item.NotIterable → item_of v j ≡ item.NotIterable
+same_at_all : (v : SiteValue) (i j : ℕ) → item_of v i ≡ Err no_item.NotIterable → item_of v j ≡ Err no_item.NotIterable
 same_at_all value.Unit i j e = refl
 same_at_all (value.Truth b) i j e = refl
 same_at_all (value.Number n) i j e = refl

@@ -1,8 +1,7 @@
 -- the site host's answers to every call
-use Rattle.std.specs.Prelude.{ℕ, true, cond, List, pos, Ok, Err, ◌==◌}
+use Rattle.std.specs.Prelude.{ℕ, true, cond, List, pos, Some, None, Ok, Err, ◌==◌}
 use Rattle.host.specs.declared.answers.Halt.TheVariants as halt
 use Rattle.host.specs.Answers.{Allowed, Applied, Evaluated}
-use Rattle.host.specs.declared.answers.Allowed.TheVariants.{Yes}
 use Rattle.host.specs.declared.answers.Caught.{Caught}
 use Rattle.host.specs.declared.answers.Fault.{Fault}
 use Rattle.host.specs.declared.view.Declaration.{Declaration}
@@ -31,20 +30,20 @@ fault_of f = record { code = code_of f; at = record { line = 0; column = 0 }; ca
 
 -- evaluate answers a value or a fault, and never exit
 abbrev pub evaluated_of : Outcome → Evaluated SiteValue
-evaluated_of (Ok x) = evaluated.Value x
-evaluated_of (Err f) = evaluated.Fault (fault_of f)
+evaluated_of (Ok x) = Ok x
+evaluated_of (Err f) = Err (halt.Fault (fault_of f))
 
 abbrev pub applied_of : Outcome → Applied SiteValue
-applied_of (Ok x) = applied.Value x
-applied_of (Err f) = applied.Fault (fault_of f)
+applied_of (Ok x) = Ok (Some x)
+applied_of (Err f) = Err (fault_of f)
 
 -- apply knows 1, which is +
 abbrev pub applies : ℕ → SiteValue → SiteValue → Applied SiteValue
-applies op a b = cond (op == 1) (applied_of (plus a b)) applied.NotFound
+applies op a b = cond (op == 1) (applied_of (plus a b)) (Ok None)
 
 -- binary knows 1, which is +, and 2, which is -
 abbrev pub combines : ℕ → SiteValue → SiteValue → Applied SiteValue
-combines op a b = cond (op == 1) (applied_of (plus a b)) (cond (op == 2) (applied_of (minus a b)) applied.NotFound)
+combines op a b = cond (op == 1) (applied_of (plus a b)) (cond (op == 2) (applied_of (minus a b)) (Ok None))
 
 -- a caught fault is its number
 abbrev pub caught_as : Caught → SiteValue
@@ -56,7 +55,7 @@ site_evaluate exprs s code v = record { state = s; rows = v.rows; answer = evalu
 
 -- every name may be declared
 abbrev pub site_allow : {T : Type 0} → TableHost T → Declaration → Seen SiteValue → Step (TableHost T) SiteValue Allowed
-site_allow s d v = record { state = s; rows = v.rows; answer = Yes }
+site_allow s d v = record { state = s; rows = v.rows; answer = Ok true }
 
 -- the meaning of the site host over a table of any kind T
 abbrev pub site_meaning : {T : Type 0} → (T → List SiteExpr) → HostMeaning (TableHost T) SiteValue

@@ -1,5 +1,5 @@
 -- what a value is asked for
-use Rattle.std.specs.Prelude.{ℕ, Bool, true, false, cond, ℤ, pos, negsuc, ◌+ℤ◌, Some, None, Option, int_lt, nat_le}
+use Rattle.std.specs.Prelude.{ℕ, Bool, true, false, cond, ℤ, pos, negsuc, ◌+ℤ◌, Some, None, Option, Ok, Err, int_lt, nat_le}
 use Rattle.host.specs.declared.answers.NoItem.TheVariants as no_item
 use Rattle.host.specs.Answers.{Item}
 use Rattle.host.specs.Meaning.{most_whole}
@@ -39,11 +39,11 @@ path_of = number_up_to 4294967295
 
 -- item i of the numbers from a up to b, which is left out
 abbrev pub item_from : ℤ → ℤ → ℕ → Item SiteValue
-item_from a b i = cond (int_lt (a +ℤ pos i) b) (item.Item (value.Number (a +ℤ pos i))) item.End
+item_from a b i = cond (int_lt (a +ℤ pos i) b) (Ok (Some (value.Number (a +ℤ pos i)))) (Ok None)
 
 -- only a range has items
 abbrev pub item_of : SiteValue → ℕ → Item SiteValue
-item_of value.Unit i = item.NotIterable
-item_of (value.Truth b) i = item.NotIterable
-item_of (value.Number n) i = item.NotIterable
+item_of value.Unit i = Err no_item.NotIterable
+item_of (value.Truth b) i = Err no_item.NotIterable
+item_of (value.Number n) i = Err no_item.NotIterable
 item_of (value.Range a b) i = item_from a b i

@@ -8,7 +8,7 @@ use crate::ops::{add, subtract};
 use crate::questions::{is_unit, item_of, path_of, truth_of, whole_of};
 use crate::table::Table;
 use crate::value::{Failure, SiteValue};
-use host::{Allowed, Applied, Caught, Declaration, Evaluated, Fault, Host, Item, View};
+use host::{Allowed, Applied, Caught, Declaration, Evaluated, Fault, Halt, Host, Item, View};
 use image::Position;
 use rows::VarRow;
 
@@ -58,8 +58,8 @@ fn evaluated(outcome: Result<SiteValue, Failure>) -> Evaluated<SiteValue>
     ensures { result ≡ evaluated_of outcome }
 {
     match outcome {
-        Ok(value) => Evaluated::Value(value),
-        Err(failure) => Evaluated::Fault(fault_of(failure)),
+        Ok(value) => Ok(value),
+        Err(failure) => Err(Halt::Fault(fault_of(failure))),
     }
 }
 
@@ -67,8 +67,8 @@ fn applied(outcome: Result<SiteValue, Failure>) -> Applied<SiteValue>
     ensures { result ≡ applied_of outcome }
 {
     match outcome {
-        Ok(value) => Applied::Value(value),
-        Err(failure) => Applied::Fault(fault_of(failure)),
+        Ok(value) => Ok(Some(value)),
+        Err(failure) => Err(fault_of(failure)),
     }
 }
 
@@ -78,7 +78,7 @@ fn changed(op: u16, left: SiteValue, right: SiteValue) -> Applied<SiteValue>
 {
     match op {
         1 => applied(add(left, right)),
-        _ => Applied::NotFound,
+        _ => Ok(None),
     }
 }
 
@@ -89,7 +89,7 @@ fn combined(op: u16, left: SiteValue, right: SiteValue) -> Applied<SiteValue>
     match op {
         1 => applied(add(left, right)),
         2 => applied(subtract(left, right)),
-        _ => Applied::NotFound,
+        _ => Ok(None),
     }
 }
 
@@ -127,7 +127,7 @@ impl<T: Table> Host for TableHost<T> {
         used: usize,
         _view: View<'_>,
     ) -> (usize, Allowed) {
-        (in_use(vars, used), Allowed::Yes)
+        (in_use(vars, used), Ok(true))
     }
 
     fn apply(&self, op: u16, left: SiteValue, right: SiteValue) -> Applied<SiteValue> {

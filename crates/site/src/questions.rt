@@ -2,7 +2,7 @@ ghost use Rattle.std.specs.Prelude.{◌≡◌};
 ghost use Rattle.site.specs.Questions.{up_to, is_unit, truth_of, whole_of, path_of, item_from, item_of};
 
 use crate::value::SiteValue;
-use host::Item;
+use host::{Item, NoItem};
 
 /// The largest number that reads as a whole one.
 const MOST_WHOLE: u32 = 1_000_000_000;
@@ -61,8 +61,8 @@ fn item_from(from: i64, to: i64, i: u32) -> Item<SiteValue>
     ensures { result ≡ item_from from to i }
 {
     match from.checked_add(i64::from(i)) {
-        Some(n) if n < to => Item::Item(SiteValue::Number(n)),
-        _ => Item::End,
+        Some(n) if n < to => Ok(Some(SiteValue::Number(n))),
+        _ => Ok(None),
     }
 }
 
@@ -71,6 +71,6 @@ pub(crate) fn item_of(value: SiteValue, i: u32) -> Item<SiteValue>
 {
     match value {
         SiteValue::Range(from, to) => item_from(from, to, i),
-        SiteValue::Unit | SiteValue::Truth(_) | SiteValue::Number(_) => Item::NotIterable,
+        SiteValue::Unit | SiteValue::Truth(_) | SiteValue::Number(_) => Err(NoItem::NotIterable),
     }
 }
