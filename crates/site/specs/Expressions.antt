@@ -13,7 +13,7 @@ use Rattle.site.specs.declared.expr.SiteExpr.TheVariants as expr
 use Rattle.site.specs.declared.value.Failure.TheVariants.{UnknownVariable, UnknownCode}
 use Rattle.site.specs.declared.value.SiteValue.{SiteValue}
 use Rattle.site.specs.declared.value.SiteValue.TheVariants as value
-use Rattle.site.specs.Operators.{Outcome, plus, minus, less, equal, range, on_both}
+use Rattle.site.specs.Operators.{Outcome, operator_of, on_both}
 
 -- the value of the row that was found
 abbrev pub value_at : List (VarRow SiteValue) → Option ℕ → Outcome
@@ -31,11 +31,7 @@ operand_of v (Variable p) = looked v p
 -- both operands are looked up, and then the operator is asked
 abbrev pub value_of : Seen SiteValue → SiteExpr → Outcome
 value_of v (expr.Operand o) = operand_of v o
-value_of v (expr.Add l r) = on_both plus (operand_of v l) (operand_of v r)
-value_of v (expr.Subtract l r) = on_both minus (operand_of v l) (operand_of v r)
-value_of v (expr.Less l r) = on_both less (operand_of v l) (operand_of v r)
-value_of v (expr.Equal l r) = on_both equal (operand_of v l) (operand_of v r)
-value_of v (expr.Range l r) = on_both range (operand_of v l) (operand_of v r)
+value_of v (expr.Binary op l r) = on_both (operator_of op) (operand_of v l) (operand_of v r)
 
 -- a code past the table has no value
 abbrev pub answer_of : Option SiteExpr → Seen SiteValue → Outcome

@@ -1,7 +1,7 @@
 -- the operators of the site host on two values
 use Rattle.std.specs.Prelude.{◌^◌, Bool, true, false, cond, not, ◌&&◌, ℤ, pos, negsuc, ◌+ℤ◌, ◌-ℤ◌, Ok, Err, Result, ◌==◌, int_lt}
-use Rattle.site.specs.declared.ops.Operator.{Operator}
-use Rattle.site.specs.declared.ops.Operator.TheVariants as operator
+use Rattle.site.specs.declared.expr.Operator.{Operator}
+use Rattle.site.specs.declared.expr.Operator.TheVariants as operator
 use Rattle.site.specs.declared.value.Failure.{Failure}
 use Rattle.site.specs.declared.value.Failure.TheVariants.{Overflow, WrongKind}
 use Rattle.site.specs.declared.value.SiteValue.{SiteValue}

@@ -1,15 +1,13 @@
 ghost use Rattle.std.specs.Prelude.{◌≡◌, min, length};
 ghost use Rattle.site.specs.Laws.{site_laws};
-ghost use Rattle.site.specs.Meaning.{fault_of, evaluated_of, applied_of, applies, combines, caught_as, site_meaning};
+ghost use Rattle.site.specs.Meaning.{applies, combines, caught_as, site_meaning};
 
 use crate::expr::SiteExpr;
-use crate::look::answer;
+use crate::look::Scope;
 use crate::ops::{add, subtract};
-use crate::questions::{is_unit, item_of, path_of, truth_of, whole_of};
 use crate::table::Table;
-use crate::value::{Failure, SiteValue};
-use host::{Allowed, Applied, Caught, Declaration, Evaluated, Fault, Halt, Host, Item, View};
-use image::Position;
+use crate::value::SiteValue;
+use host::{Allowed, Applied, Caught, Declaration, Evaluated, Halt, Host, Item, View};
 use rows::VarRow;
 
 /// A host that evaluates the expressions of a table, by code. It is generic in the table, so that it knows nothing of how
@@ -30,6 +28,9 @@ impl<'a> TableHost<&'a [SiteExpr]> {
     }
 }
 
+/// The largest number that reads as a whole one.
+const MOST_WHOLE: u32 = 1_000_000_000;
+
 /// How many variables are in use; a number past the rows counts as all of them.
 fn in_use(vars: &[VarRow<SiteValue>], used: usize) -> usize
     ensures { result ≡ min used (length vars.now) }
@@ -37,47 +38,12 @@ fn in_use(vars: &[VarRow<SiteValue>], used: usize) -> usize
     used.min(vars.len())
 }
 
-/// Every failure is a fault that can be caught and has no position.
-fn fault_of(failure: Failure) -> Fault
-    ensures { result ≡ fault_of failure }
-{
-    let code = match failure {
-        Failure::Overflow => 1,
-        Failure::UnknownVariable => 2,
-        Failure::WrongKind => 3,
-        Failure::UnknownCode => 4,
-    };
-    Fault {
-        code,
-        at: Position { line: 0, column: 0 },
-        catchable: true,
-    }
-}
-
-fn evaluated(outcome: Result<SiteValue, Failure>) -> Evaluated<SiteValue>
-    ensures { result ≡ evaluated_of outcome }
-{
-    match outcome {
-        Ok(value) => Ok(value),
-        Err(failure) => Err(Halt::Fault(fault_of(failure))),
-    }
-}
-
-fn applied(outcome: Result<SiteValue, Failure>) -> Applied<SiteValue>
-    ensures { result ≡ applied_of outcome }
-{
-    match outcome {
-        Ok(value) => Ok(Some(value)),
-        Err(failure) => Err(fault_of(failure)),
-    }
-}
-
 /// The operators that change their left side: 1 is `+=`.
 fn changed(op: u16, left: SiteValue, right: SiteValue) -> Applied<SiteValue>
     ensures { result ≡ applies op left right }
 {
     match op {
-        1 => applied(add(left, right)),
+        1 => Ok(Some(add(left, right)?)),
         _ => Ok(None),
     }
 }
@@ -87,8 +53,8 @@ fn combined(op: u16, left: SiteValue, right: SiteValue) -> Applied<SiteValue>
     ensures { result ≡ combines op left right }
 {
     match op {
-        1 => applied(add(left, right)),
-        2 => applied(subtract(left, right)),
+        1 => Ok(Some(add(left, right)?)),
+        2 => Ok(Some(subtract(left, right)?)),
         _ => Ok(None),
     }
 }
@@ -114,10 +80,9 @@ impl<T: Table> Host for TableHost<T> {
         used: usize,
         view: View<'_>,
     ) -> (usize, Evaluated<SiteValue>) {
-        (
-            in_use(vars, used),
-            evaluated(answer(self.table.at(code), vars, used, view)),
-        )
+        let scope = Scope { vars, used, view };
+        let answer = scope.answer(self.table.at(code)).map_err(Halt::from);
+        (in_use(vars, used), answer)
     }
 
     fn allow(
@@ -151,23 +116,23 @@ impl<T: Table> Host for TableHost<T> {
     }
 
     fn is_unit(&self, value: SiteValue) -> bool {
-        is_unit(value)
+        value.is_unit()
     }
 
     fn truth(&self, value: SiteValue) -> Option<bool> {
-        truth_of(value)
+        value.truth()
     }
 
     fn whole(&self, value: SiteValue) -> Option<u32> {
-        whole_of(value)
+        value.number_up_to(MOST_WHOLE)
     }
 
     fn path(&self, value: SiteValue) -> Option<u32> {
-        path_of(value)
+        value.number_up_to(u32::MAX)
     }
 
     fn item(&self, value: SiteValue, i: u32) -> Item<SiteValue> {
-        item_of(value, i)
+        value.item(i)
     }
 
     fn caught(&self, fault: Caught) -> SiteValue {

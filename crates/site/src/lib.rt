@@ -10,6 +10,6 @@ mod table;
 mod value;
 
 pub use calls::{SiteHost, TableHost};
-pub use expr::{Operand, SiteExpr};
+pub use expr::{Operand, Operator, SiteExpr};
 pub use table::Table;
 pub use value::SiteValue;

@@ -3,76 +3,56 @@ ghost use Rattle.host.specs.Meaning.{seen};
 ghost use Rattle.site.specs.Expressions.{looked, operand_of, value_of, answer_of};
 
 use crate::expr::{Operand, SiteExpr};
-use crate::ops::{Operator, operate};
+use crate::ops::operate;
 use crate::value::{Failure, SiteValue};
 use host::View;
 use names::search;
 use rows::{Place, VarRow};
 
-/// The value of the last variable in use whose name has the bytes of this one.
-fn look(
-    vars: &[VarRow<SiteValue>],
-    used: usize,
-    view: View<'_>,
-    name: Place,
-) -> Result<SiteValue, Failure>
-    ensures { result ≡ looked (seen vars.now used view.entry) name }
-{
-    match search(vars, used, name.text(view.texts), view.texts) {
-        Some(i) => Ok(vars[i].value()),
-        None => Err(Failure::UnknownVariable),
+/// What an expression may read: the variables in use, and both texts.
+#[derive(Clone, Copy)]
+pub(crate) struct Scope<'a> {
+    pub vars: &'a [VarRow<SiteValue>],
+    pub used: usize,
+    pub view: View<'a>,
+}
+
+impl<'a> Scope<'a> {
+    /// The value of the last variable in use whose name has the bytes of this one.
+    fn look(self, name: Place) -> Result<SiteValue, Failure>
+        ensures { result ≡ looked (seen self.entry.vars.now self.entry.used self.entry.view) name }
+    {
+        let texts = self.view.texts;
+        let found = search(self.vars, self.used, name.text(texts), texts);
+        let i = found.ok_or(Failure::UnknownVariable)?;
+        Ok(self.vars[i].value())
     }
-}
 
-fn operand(
-    vars: &[VarRow<SiteValue>],
-    used: usize,
-    view: View<'_>,
-    operand: Operand,
-) -> Result<SiteValue, Failure>
-    ensures { result ≡ operand_of (seen vars.now used view.entry) operand }
-{
-    match operand {
-        Operand::Constant(value) => Ok(value),
-        Operand::Variable(name) => look(vars, used, view, name),
+    fn operand(self, operand: Operand) -> Result<SiteValue, Failure>
+        ensures { result ≡ operand_of (seen self.entry.vars.now self.entry.used self.entry.view) operand }
+    {
+        match operand {
+            Operand::Constant(value) => Ok(value),
+            Operand::Variable(name) => self.look(name),
+        }
     }
-}
 
-/// The value of an expression: both operands are looked up, and then the operator is asked.
-fn value_of(
-    vars: &[VarRow<SiteValue>],
-    used: usize,
-    view: View<'_>,
-    expr: SiteExpr,
-) -> Result<SiteValue, Failure>
-    ensures { result ≡ value_of (seen vars.now used view.entry) expr }
-{
-    let (op, l, r) = match expr {
-        SiteExpr::Operand(o) => return operand(vars, used, view, o),
-        SiteExpr::Add(l, r) => (Operator::Add, l, r),
-        SiteExpr::Subtract(l, r) => (Operator::Subtract, l, r),
-        SiteExpr::Less(l, r) => (Operator::Less, l, r),
-        SiteExpr::Equal(l, r) => (Operator::Equal, l, r),
-        SiteExpr::Range(l, r) => (Operator::Range, l, r),
-    };
-    operate(
-        op,
-        operand(vars, used, view, l),
-        operand(vars, used, view, r),
-    )
-}
+    /// The value of an expression: both operands are looked up, and then the operator is asked.
+    fn value_of(self, expr: SiteExpr) -> Result<SiteValue, Failure>
+        ensures { result ≡ value_of (seen self.entry.vars.now self.entry.used self.entry.view) expr }
+    {
+        match expr {
+            SiteExpr::Operand(operand) => self.operand(operand),
+            SiteExpr::Binary(op, left, right) => {
+                operate(op, self.operand(left)?, self.operand(right)?)
+            }
+        }
+    }
 
-/// The value of the expression that was found under a code, if one was.
-pub(crate) fn answer(
-    expr: Option<SiteExpr>,
-    vars: &[VarRow<SiteValue>],
-    used: usize,
-    view: View<'_>,
-) -> Result<SiteValue, Failure>
-    ensures { result ≡ answer_of expr (seen vars.now used view.entry) }
-{
-    match expr {
-        Some(expr) => value_of(vars, used, view, expr),
-        None => Err(Failure::UnknownCode),
+    /// The value of the expression that was found under a code, if one was.
+    pub(crate) fn answer(self, expr: Option<SiteExpr>) -> Result<SiteValue, Failure>
+        ensures { result ≡ answer_of expr (seen self.entry.vars.now self.entry.used self.entry.view) }
+    {
+        self.value_of(expr.ok_or(Failure::UnknownCode)?)
     }
 }

@@ -17,7 +17,6 @@ impl<'a> Table for &'a [SiteExpr] {
     ghost exprs = { λ s. s.now };
 
     fn at(&self, code: u16) -> Option<SiteExpr> {
-        let i = code as usize;
-        if i < self.len() { Some(self[i]) } else { None }
+        self.get(code as usize).copied()
     }
 }
