@@ -13,8 +13,8 @@ use Rattle.site.specs.Questions.{item_of}
 
 -- an item and an end both say that a value is iterable
 apart : (b : Bool) (v : SiteValue) → cond b (Ok (Some v)) (Ok None) ≢ Err no_item.NotIterable
-apart true v e = let z : ◌≡◌ {A = ℕ} 0 1 = cc in omega arith
-apart false v e = let z : ◌≡◌ {A = ℕ} 0 1 = cc in omega arith
+apart true v e = cc
+apart false v e = cc
 
 same_at_all : (v : SiteValue) (i j : ℕ) → item_of v i ≡ Err no_item.NotIterable → item_of v j ≡ Err no_item.NotIterable
 same_at_all value.Unit i j e = refl

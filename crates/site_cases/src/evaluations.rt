@@ -1,43 +1,47 @@
 //! Expressions, with the number of variables in use.
 
 use crate::operands::*;
-use crate::show::{Answer, Expr, evaluated};
+use crate::show::{Answer, Expr};
 use host::{Evaluated, Host, View};
 use rows::{Access, Texts, VarRow};
-use site::{Operand, SiteExpr, SiteHost, SiteValue};
+use site::Operator::{Add, Equal, Less, Range, Subtract};
+use site::SiteExpr::Binary;
+use site::{Operand, Operator, SiteExpr, SiteHost, SiteValue};
 
 /// One operand of each kind.
-static KINDS: [Operand; 4] = [UNIT, YES, TWO, THREE_FROM_0];
+const KINDS: [Operand; 4] = [UNIT, YES, TWO, THREE_FROM_0];
 
-static CASES: [(SiteExpr, usize); 57] = [
+const OPERATORS: [Operator; 5] = [Add, Subtract, Less, Equal, Range];
+
+const CASES: [(SiteExpr, usize); 57] = [
     (SiteExpr::Operand(UNIT), 0),
     (SiteExpr::Operand(YES), 0),
     (SiteExpr::Operand(LOW), 0),
     (SiteExpr::Operand(ALL), 0),
-    (SiteExpr::Add(HIGH, ONE), 0),
-    (SiteExpr::Add(LOW, MINUS_ONE), 0),
-    (SiteExpr::Add(HIGH, LOW), 0),
-    (SiteExpr::Add(HIGH, MINUS_ONE), 0),
-    (SiteExpr::Subtract(LOW, ONE), 0),
-    (SiteExpr::Subtract(HIGH, MINUS_ONE), 0),
-    (SiteExpr::Subtract(ZERO, LOW), 0),
-    (SiteExpr::Subtract(MINUS_ONE, LOW), 0),
-    (SiteExpr::Subtract(LOW, LOW), 0),
-    (SiteExpr::Subtract(HIGH, HIGH), 0),
-    (SiteExpr::Less(LOW, HIGH), 0),
-    (SiteExpr::Less(HIGH, LOW), 0),
-    (SiteExpr::Less(ONE, ONE), 0),
-    (SiteExpr::Less(MINUS_ONE, ZERO), 0),
-    (SiteExpr::Less(ZERO, MINUS_ONE), 0),
-    (SiteExpr::Equal(LOW, LOW), 0),
-    (SiteExpr::Equal(LOW, HIGH), 0),
-    (SiteExpr::Equal(ONE, MINUS_ONE), 0),
-    (SiteExpr::Equal(YES, NO), 0),
-    (SiteExpr::Equal(NO, NO), 0),
-    (SiteExpr::Equal(THREE_FROM_0, FOUR_FROM_0), 0),
-    (SiteExpr::Equal(THREE_FROM_0, TWO_FROM_1), 0),
-    (SiteExpr::Range(LOW, HIGH), 0),
-    (SiteExpr::Range(TWO, ONE), 0),
+    (Binary(Add, HIGH, ONE), 0),
+    (Binary(Add, LOW, MINUS_ONE), 0),
+    (Binary(Add, HIGH, LOW), 0),
+    (Binary(Add, HIGH, MINUS_ONE), 0),
+    (Binary(Subtract, LOW, ONE), 0),
+    (Binary(Subtract, HIGH, MINUS_ONE), 0),
+    (Binary(Subtract, ZERO, LOW), 0),
+    (Binary(Subtract, MINUS_ONE, LOW), 0),
+    (Binary(Subtract, LOW, LOW), 0),
+    (Binary(Subtract, HIGH, HIGH), 0),
+    (Binary(Less, LOW, HIGH), 0),
+    (Binary(Less, HIGH, LOW), 0),
+    (Binary(Less, ONE, ONE), 0),
+    (Binary(Less, MINUS_ONE, ZERO), 0),
+    (Binary(Less, ZERO, MINUS_ONE), 0),
+    (Binary(Equal, LOW, LOW), 0),
+    (Binary(Equal, LOW, HIGH), 0),
+    (Binary(Equal, ONE, MINUS_ONE), 0),
+    (Binary(Equal, YES, NO), 0),
+    (Binary(Equal, NO, NO), 0),
+    (Binary(Equal, THREE_FROM_0, FOUR_FROM_0), 0),
+    (Binary(Equal, THREE_FROM_0, TWO_FROM_1), 0),
+    (Binary(Range, LOW, HIGH), 0),
+    (Binary(Range, TWO, ONE), 0),
     (SiteExpr::Operand(A), 4),
     (SiteExpr::Operand(SITE_A), 4),
     (SiteExpr::Operand(A), 3),
@@ -48,25 +52,25 @@ static CASES: [(SiteExpr, usize); 57] = [
     (SiteExpr::Operand(B), 99),
     (SiteExpr::Operand(X), 6),
     (SiteExpr::Operand(AB), 6),
-    (SiteExpr::Add(C, ONE), 6),
-    (SiteExpr::Add(ONE, C), 6),
-    (SiteExpr::Subtract(C, ONE), 6),
-    (SiteExpr::Add(A, SITE_A), 6),
-    (SiteExpr::Add(UNIT, X), 6),
-    (SiteExpr::Add(X, UNIT), 6),
-    (SiteExpr::Add(X, X), 6),
-    (SiteExpr::Less(UNIT, X), 6),
-    (SiteExpr::Equal(YES, X), 6),
-    (SiteExpr::Range(X, ONE), 6),
-    (SiteExpr::Add(HIGH, YES), 0),
-    (SiteExpr::Add(B, A), 5),
+    (Binary(Add, C, ONE), 6),
+    (Binary(Add, ONE, C), 6),
+    (Binary(Subtract, C, ONE), 6),
+    (Binary(Add, A, SITE_A), 6),
+    (Binary(Add, UNIT, X), 6),
+    (Binary(Add, X, UNIT), 6),
+    (Binary(Add, X, X), 6),
+    (Binary(Less, UNIT, X), 6),
+    (Binary(Equal, YES, X), 6),
+    (Binary(Range, X, ONE), 6),
+    (Binary(Add, HIGH, YES), 0),
+    (Binary(Add, B, A), 5),
     (SiteExpr::Operand(PAST_RULE), 4),
     (SiteExpr::Operand(PAST_RULE), 5),
     (SiteExpr::Operand(NO_NAME), 4),
     (SiteExpr::Operand(NO_NAME), 5),
     (SiteExpr::Operand(SITE_END), 6),
     (SiteExpr::Operand(FAR), 5),
-    (SiteExpr::Equal(PAST_RULE, THREE_FROM_1), 6),
+    (Binary(Equal, PAST_RULE, THREE_FROM_1), 6),
 ];
 
 /// What a run asks of any host.
@@ -111,38 +115,37 @@ fn print_case(rt: &HostRuntime, expr: SiteExpr, used: usize) -> anyhow::Result<(
     println!(rt;
         "{}, {used} used: {}, {left} used",
         Expr(expr),
-        evaluated(answer)
+        Answer::from(answer)
     )?;
     Ok(())
 }
 
 /// Every operator on two operands.
 fn print_operators(rt: &HostRuntime, l: Operand, r: Operand) -> anyhow::Result<()> {
-    print_case(rt, SiteExpr::Add(l, r), 0)?;
-    print_case(rt, SiteExpr::Subtract(l, r), 0)?;
-    print_case(rt, SiteExpr::Less(l, r), 0)?;
-    print_case(rt, SiteExpr::Equal(l, r), 0)?;
-    print_case(rt, SiteExpr::Range(l, r), 0)
+    for op in OPERATORS {
+        print_case(rt, Binary(op, l, r), 0)?;
+    }
+    Ok(())
 }
 
 fn print_rights(rt: &HostRuntime, l: Operand) -> anyhow::Result<()> {
-    for r in KINDS.iter() {
-        print_operators(rt, l, *r)?;
+    for r in KINDS {
+        print_operators(rt, l, r)?;
     }
     Ok(())
 }
 
 /// Every operator on every mix of kinds.
 pub fn print_mixes(rt: &HostRuntime) -> anyhow::Result<()> {
-    for l in KINDS.iter() {
-        print_rights(rt, *l)?;
+    for l in KINDS {
+        print_rights(rt, l)?;
     }
     Ok(())
 }
 
 pub fn print_cases(rt: &HostRuntime) -> anyhow::Result<()> {
-    for case in CASES.iter() {
-        print_case(rt, case.0, case.1)?;
+    for (expr, used) in CASES {
+        print_case(rt, expr, used)?;
     }
     Ok(())
 }
@@ -151,7 +154,7 @@ pub fn print_cases(rt: &HostRuntime) -> anyhow::Result<()> {
 fn print_code(rt: &HostRuntime, code: u16) -> anyhow::Result<()> {
     let table = [SiteExpr::Operand(ONE), SiteExpr::Operand(TWO)];
     let (_, answer) = evaluate(&table, code, 6);
-    println!(rt; "code {code} of 2: {}", evaluated(answer))?;
+    println!(rt; "code {code} of 2: {}", Answer::from(answer))?;
     Ok(())
 }
 
@@ -161,6 +164,6 @@ pub fn print_codes(rt: &HostRuntime) -> anyhow::Result<()> {
     print_code(rt, 2)?;
     print_code(rt, 65535)?;
     let (_, answer) = evaluate(&[], 0, 6);
-    println!(rt; "code 0 of 0: {}", evaluated(answer))?;
+    println!(rt; "code 0 of 0: {}", Answer::from(answer))?;
     Ok(())
 }

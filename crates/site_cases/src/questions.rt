@@ -1,12 +1,12 @@
 //! The calls that depend on their arguments alone, and the one that allows a name.
 
 use crate::operands::*;
-use crate::show::{Answer, Value, allowed, applied, item, number, truth};
+use crate::show::Answer;
 use host::{Caught, Declaration, Host, View};
 use rows::{Access, Texts, VarRow};
 use site::{SiteExpr, SiteHost, SiteValue};
 
-static ITEMS: [(SiteValue, u32); 22] = [
+const ITEMS: [(SiteValue, u32); 22] = [
     (SiteValue::Range(0, 3), 0),
     (SiteValue::Range(0, 3), 2),
     (SiteValue::Range(0, 3), 3),
@@ -40,7 +40,7 @@ static ITEMS: [(SiteValue, u32); 22] = [
     (SiteValue::Number(3), 4_294_967_295),
 ];
 
-static VALUES: [SiteValue; 13] = [
+const VALUES: [SiteValue; 13] = [
     SiteValue::Unit,
     SiteValue::Truth(true),
     SiteValue::Truth(false),
@@ -56,7 +56,7 @@ static VALUES: [SiteValue; 13] = [
     SiteValue::Range(0, 1),
 ];
 
-static APPLICATIONS: [(u16, SiteValue, SiteValue); 14] = [
+const APPLICATIONS: [(u16, SiteValue, SiteValue); 14] = [
     (0, SiteValue::Number(1), SiteValue::Number(2)),
     (1, SiteValue::Number(1), SiteValue::Number(2)),
     (2, SiteValue::Number(1), SiteValue::Number(2)),
@@ -73,7 +73,7 @@ static APPLICATIONS: [(u16, SiteValue, SiteValue); 14] = [
     (3, SiteValue::Unit, SiteValue::Unit),
 ];
 
-static FAULTS: [(&str, Caught); 9] = [
+const FAULTS: [(&str, Caught); 9] = [
     ("caught not allowed", Caught::NotAllowed(A_IN_RULE)),
     ("caught wrong kind", Caught::WrongKind),
     ("caught not iterable", Caught::NotIterable),
@@ -87,20 +87,20 @@ static FAULTS: [(&str, Caught); 9] = [
 
 static NO_EXPRS: [SiteExpr; 0] = [];
 
-fn print_answer(rt: &HostRuntime, question: &str, answer: Answer) -> anyhow::Result<()> {
+fn print_answer(rt: &HostRuntime, question: &str, answer: SiteValue) -> anyhow::Result<()> {
     println!(rt; "{question}: {answer}")?;
     Ok(())
 }
 
 fn print_item(rt: &HostRuntime, value: SiteValue, i: u32) -> anyhow::Result<()> {
-    let answer = item(SiteHost::new(&NO_EXPRS).item(value, i));
-    println!(rt; "item {i} of {}: {answer}", Value(value))?;
+    let answer = Answer::from(SiteHost::new(&NO_EXPRS).item(value, i));
+    println!(rt; "item {i} of {value}: {answer}")?;
     Ok(())
 }
 
 pub fn print_items(rt: &HostRuntime) -> anyhow::Result<()> {
-    for case in ITEMS.iter() {
-        print_item(rt, case.0, case.1)?;
+    for (value, i) in ITEMS {
+        print_item(rt, value, i)?;
     }
     Ok(())
 }
@@ -109,19 +109,16 @@ pub fn print_items(rt: &HostRuntime) -> anyhow::Result<()> {
 fn print_value(rt: &HostRuntime, value: SiteValue) -> anyhow::Result<()> {
     let host = SiteHost::new(&NO_EXPRS);
     let unit = host.is_unit(value);
-    let truth = truth(host.truth(value));
-    let whole = number(host.whole(value));
-    let path = number(host.path(value));
-    println!(rt;
-        "{}: unit {unit}, truth {truth}, whole {whole}, path {path}",
-        Value(value)
-    )?;
+    let truth = Answer::from(host.truth(value));
+    let whole = Answer::from(host.whole(value));
+    let path = Answer::from(host.path(value));
+    println!(rt; "{value}: unit {unit}, truth {truth}, whole {whole}, path {path}")?;
     Ok(())
 }
 
 pub fn print_values(rt: &HostRuntime) -> anyhow::Result<()> {
-    for value in VALUES.iter() {
-        print_value(rt, *value)?;
+    for value in VALUES {
+        print_value(rt, value)?;
     }
     Ok(())
 }
@@ -129,27 +126,23 @@ pub fn print_values(rt: &HostRuntime) -> anyhow::Result<()> {
 /// An operator by both calls that take one.
 fn print_application(rt: &HostRuntime, op: u16, l: SiteValue, r: SiteValue) -> anyhow::Result<()> {
     let host = SiteHost::new(&NO_EXPRS);
-    let apply = applied(host.apply(op, l, r));
-    let binary = applied(host.binary(op, l, r));
-    println!(rt;
-        "operator {op} on {} and {}: apply {apply}, binary {binary}",
-        Value(l),
-        Value(r)
-    )?;
+    let apply = Answer::from(host.apply(op, l, r));
+    let binary = Answer::from(host.binary(op, l, r));
+    println!(rt; "operator {op} on {l} and {r}: apply {apply}, binary {binary}")?;
     Ok(())
 }
 
 pub fn print_applications(rt: &HostRuntime) -> anyhow::Result<()> {
-    for case in APPLICATIONS.iter() {
-        print_application(rt, case.0, case.1, case.2)?;
+    for (op, l, r) in APPLICATIONS {
+        print_application(rt, op, l, r)?;
     }
     Ok(())
 }
 
 pub fn print_faults(rt: &HostRuntime) -> anyhow::Result<()> {
     let host = SiteHost::new(&NO_EXPRS);
-    for case in FAULTS.iter() {
-        print_answer(rt, case.0, Answer::Value(host.caught(case.1)))?;
+    for (question, fault) in FAULTS {
+        print_answer(rt, question, host.caught(fault))?;
     }
     Ok(())
 }
@@ -157,20 +150,12 @@ pub fn print_faults(rt: &HostRuntime) -> anyhow::Result<()> {
 /// Made values.
 pub fn print_made(rt: &HostRuntime) -> anyhow::Result<()> {
     let host = SiteHost::new(&NO_EXPRS);
-    print_answer(rt, "made unit", Answer::Value(host.make_unit()))?;
-    print_answer(rt, "made true", Answer::Value(host.make_truth(true)))?;
-    print_answer(rt, "made false", Answer::Value(host.make_truth(false)))?;
-    print_answer(rt, "made 0", Answer::Value(host.make_whole(0)))?;
-    print_answer(
-        rt,
-        "made 1000000000",
-        Answer::Value(host.make_whole(1_000_000_000)),
-    )?;
-    print_answer(
-        rt,
-        "made 4294967295",
-        Answer::Value(host.make_whole(4_294_967_295)),
-    )
+    print_answer(rt, "made unit", host.make_unit())?;
+    print_answer(rt, "made true", host.make_truth(true))?;
+    print_answer(rt, "made false", host.make_truth(false))?;
+    print_answer(rt, "made 0", host.make_whole(0))?;
+    print_answer(rt, "made 1000000000", host.make_whole(1_000_000_000))?;
+    print_answer(rt, "made 4294967295", host.make_whole(4_294_967_295))
 }
 
 /// A name that is about to be declared, with more variables in use than there are.
@@ -192,6 +177,6 @@ pub fn print_allowed(rt: &HostRuntime) -> anyhow::Result<()> {
         present: true,
     };
     let (used, answer) = SiteHost::new(&NO_EXPRS).allow(declaration, &mut vars, 99, view);
-    println!(rt; "allowed, 99 used: {}, {used} used", allowed(answer))?;
+    println!(rt; "allowed, 99 used: {}, {used} used", Answer::from(answer))?;
     Ok(())
 }

@@ -1,8 +1,8 @@
 //! Questions and answers as text.
 
-use host::{Allowed, Applied, Evaluated, Fault, Item};
+use host::{Allowed, Applied, Evaluated, Fault, Halt, Item, NoItem};
 use rows::{Place, Source};
-use site::{Operand, SiteExpr, SiteValue};
+use site::{Operand, Operator, SiteExpr, SiteValue};
 use std::fmt;
 
 /// An answer of the host: a value, a fault, or a word.
@@ -13,85 +13,76 @@ pub enum Answer {
     Word(&'static str),
 }
 
-pub fn evaluated(answer: Evaluated<SiteValue>) -> Answer {
-    match answer {
-        Evaluated::Value(value) => Answer::Value(value),
-        Evaluated::Fault(fault) => Answer::Fault(fault),
-        Evaluated::Exit(_) => Answer::Word("exit"),
-    }
-}
-
-pub fn applied(answer: Applied<SiteValue>) -> Answer {
-    match answer {
-        Applied::Value(value) => Answer::Value(value),
-        Applied::Fault(fault) => Answer::Fault(fault),
-        Applied::NotFound => Answer::Word("not found"),
-    }
-}
-
-pub fn item(answer: Item<SiteValue>) -> Answer {
-    match answer {
-        Item::Item(value) => Answer::Value(value),
-        Item::Fault(fault) => Answer::Fault(fault),
-        Item::End => Answer::Word("end"),
-        Item::NotIterable => Answer::Word("not iterable"),
-    }
-}
-
-pub fn allowed(answer: Allowed) -> Answer {
-    match answer {
-        Allowed::Yes => Answer::Word("yes"),
-        Allowed::No => Answer::Word("no"),
-        Allowed::Fault(fault) => Answer::Fault(fault),
-    }
-}
-
-pub fn number(answer: Option<u32>) -> Answer {
-    match answer {
-        Some(n) => Answer::Value(SiteValue::Number(i64::from(n))),
-        None => Answer::Word("none"),
-    }
-}
-
-pub fn truth(answer: Option<bool>) -> Answer {
-    match answer {
-        Some(b) => Answer::Value(SiteValue::Truth(b)),
-        None => Answer::Word("none"),
-    }
-}
-
-#[derive(Clone, Copy)]
-pub struct Value(pub SiteValue);
-
-impl fmt::Display for Value {
-    fn fmt<W: fmt::Write>(&self, f: &mut fmt::Formatter<W>) -> fmt::Result {
-        match self.0 {
-            SiteValue::Unit => write!(f, "unit"),
-            SiteValue::Truth(b) => write!(f, "{b}"),
-            SiteValue::Number(n) => write!(f, "{n}"),
-            SiteValue::Range(a, b) => write!(f, "{a}..{b}"),
+impl From<Evaluated<SiteValue>> for Answer {
+    fn from(answer: Evaluated<SiteValue>) -> Answer {
+        match answer {
+            Ok(value) => Answer::Value(value),
+            Err(Halt::Fault(fault)) => Answer::Fault(fault),
+            Err(Halt::Exit(_)) => Answer::Word("exit"),
         }
     }
 }
 
-#[derive(Clone, Copy)]
-struct Failed(Fault);
+impl From<Applied<SiteValue>> for Answer {
+    fn from(answer: Applied<SiteValue>) -> Answer {
+        match answer {
+            Ok(Some(value)) => Answer::Value(value),
+            Ok(None) => Answer::Word("not found"),
+            Err(fault) => Answer::Fault(fault),
+        }
+    }
+}
 
-impl fmt::Display for Failed {
-    fn fmt<W: fmt::Write>(&self, f: &mut fmt::Formatter<W>) -> fmt::Result {
-        let kind = if self.0.catchable { "fault" } else { "fatal" };
-        let code = self.0.code;
-        let line = self.0.at.line;
-        let column = self.0.at.column;
-        write!(f, "{kind} {code} at {line}:{column}")
+impl From<Item<SiteValue>> for Answer {
+    fn from(answer: Item<SiteValue>) -> Answer {
+        match answer {
+            Ok(Some(value)) => Answer::Value(value),
+            Ok(None) => Answer::Word("end"),
+            Err(NoItem::NotIterable) => Answer::Word("not iterable"),
+            Err(NoItem::Fault(fault)) => Answer::Fault(fault),
+        }
+    }
+}
+
+impl From<Allowed> for Answer {
+    fn from(answer: Allowed) -> Answer {
+        match answer {
+            Ok(true) => Answer::Word("yes"),
+            Ok(false) => Answer::Word("no"),
+            Err(fault) => Answer::Fault(fault),
+        }
+    }
+}
+
+impl From<Option<SiteValue>> for Answer {
+    fn from(answer: Option<SiteValue>) -> Answer {
+        answer.map_or(Answer::Word("none"), Answer::Value)
+    }
+}
+
+impl From<Option<u32>> for Answer {
+    fn from(answer: Option<u32>) -> Answer {
+        Answer::from(answer.map(|number| SiteValue::Number(i64::from(number))))
+    }
+}
+
+impl From<Option<bool>> for Answer {
+    fn from(answer: Option<bool>) -> Answer {
+        Answer::from(answer.map(SiteValue::Truth))
     }
 }
 
 impl fmt::Display for Answer {
     fn fmt<W: fmt::Write>(&self, f: &mut fmt::Formatter<W>) -> fmt::Result {
         match self {
-            Answer::Value(value) => Value(*value).fmt(f),
-            Answer::Fault(fault) => Failed(*fault).fmt(f),
+            Answer::Value(value) => value.fmt(f),
+            Answer::Fault(fault) => {
+                let kind = if fault.catchable { "fault" } else { "fatal" };
+                let code = fault.code;
+                let line = fault.at.line;
+                let column = fault.at.column;
+                write!(f, "{kind} {code} at {line}:{column}")
+            }
             Answer::Word(word) => word.fmt(f),
         }
     }
@@ -118,7 +109,7 @@ struct Part(Operand);
 impl fmt::Display for Part {
     fn fmt<W: fmt::Write>(&self, f: &mut fmt::Formatter<W>) -> fmt::Result {
         match self.0 {
-            Operand::Constant(value) => Value(value).fmt(f),
+            Operand::Constant(value) => value.fmt(f),
             Operand::Variable(name) => Name(name).fmt(f),
         }
     }
@@ -129,14 +120,11 @@ pub struct Expr(pub SiteExpr);
 
 impl fmt::Display for Expr {
     fn fmt<W: fmt::Write>(&self, f: &mut fmt::Formatter<W>) -> fmt::Result {
-        let (l, op, r) = match self.0 {
-            SiteExpr::Operand(o) => return Part(o).fmt(f),
-            SiteExpr::Add(l, r) => (l, "+", r),
-            SiteExpr::Subtract(l, r) => (l, "-", r),
-            SiteExpr::Less(l, r) => (l, "<", r),
-            SiteExpr::Equal(l, r) => (l, "=", r),
-            SiteExpr::Range(l, r) => (l, "to", r),
-        };
-        write!(f, "{} {op} {}", Part(l), Part(r))
+        match self.0 {
+            SiteExpr::Operand(operand) => Part(operand).fmt(f),
+            // Two dots between numbers read as a range that is a value.
+            SiteExpr::Binary(Operator::Range, l, r) => write!(f, "{} to {}", Part(l), Part(r)),
+            SiteExpr::Binary(op, l, r) => write!(f, "{} {op} {}", Part(l), Part(r)),
+        }
     }
 }
