@@ -88,7 +88,7 @@ def operand(w):
 def expression(w):
     operators = {"add": "Add", "sub": "Subtract", "less": "Less", "equal": "Equal", "span": "Range"}
     if w.words[0] in operators:
-        return f"({operators[w.take()]} {operand(w)} {operand(w)})"
+        return f"(Binary {operators[w.take()]} {operand(w)} {operand(w)})"
     return f"(Operand {operand(w)})"
 
 
@@ -96,10 +96,10 @@ def effects(w):
     found = []
     while w.words[0] in ("append", "set"):
         if w.take() == "append":
-            found.append(f"(Append {place(w)} {value(w, 'v')})")
+            found.append(f"(Some (Append {place(w)} {value(w, 'v')}))")
         else:
-            found.append(f"(Set {w.number()} {value(w, 'v')})")
-    return (found + ["Nothing", "Nothing"])[:2]
+            found.append(f"(Some (Set {w.number()} {value(w, 'v')}))")
+    return (found + ["None", "None"])[:2]
 
 
 def eval_answer(w):
@@ -137,10 +137,10 @@ def list_entry(w):
 def resolved(w):
     word = w.take()
     if word == "module":
-        return f"(Module {w.number()})"
+        return f"(Ok (Some {w.number()}))"
     if word == "none":
-        return "NotFound"
-    return f"(resolve.Fault {fault(w)})"
+        return "(Ok None)"
+    return f"(Err {fault(w)})"
 
 
 def call(words, lent):

@@ -28,13 +28,11 @@ use Rattle.site.specs.Meaning.{site_meaning}
 use Rattle.script.specs.declared.answer.AllowAnswer.{AllowAnswer}
 use Rattle.script.specs.declared.answer.EvalAnswer.{EvalAnswer}
 use Rattle.script.specs.declared.effect.Effect.{Effect}
-use Rattle.script.specs.declared.script_host.AllowEntry.{AllowEntry}
-use Rattle.script.specs.declared.script_host.EvalEntry.{EvalEntry}
 use Rattle.script.specs.declared.value.ScriptValue.{ScriptValue}
 use Rattle.script.specs.declared.value.ScriptValue.TheVariants as v
 use Rattle.script.specs.Answers.{eval_answer, allow_answer}
 use Rattle.script.specs.Effects.{both_done}
-use Rattle.script.specs.Meaning.{script_meaning, eval_entry, allow_entry, turned}
+use Rattle.script.specs.Meaning.{EvalEntry, AllowEntry, script_meaning, eval_entry, allow_entry, turned}
 use Rattle.run.specs.Session.{Lent, Call, put, read, rewind, run, Answer, refused as refused_call, made as made_call, got as got_call, ran as ran_call, Terms, Entry, calls, opened, open_refusal}
 
 abbrev pub place : Source → ℕ → ℕ → Place
@@ -49,10 +47,10 @@ row p r = record { path = p; answer = r }
 abbrev pub lend : ℕ → ℕ → ℕ → Lent
 lend a b c = record { vars = a; imports = b; working = c }
 
-abbrev pub evaluation : Effect → Effect → EvalAnswer → EvalEntry
+abbrev pub evaluation : Option Effect → Option Effect → EvalAnswer → EvalEntry
 evaluation a b x = record { first = a; second = b; answer = x }
 
-abbrev pub declaration : Effect → Effect → AllowAnswer → AllowEntry
+abbrev pub declaration : Option Effect → Option Effect → AllowAnswer → AllowEntry
 declaration a b x = record { first = a; second = b; answer = x }
 
 -- what the check says: a quote or none, or a refusal
