@@ -7,7 +7,7 @@ use crate::look::Scope;
 use crate::ops::{add, subtract};
 use crate::table::Table;
 use crate::value::SiteValue;
-use host::{Allowed, Applied, Caught, Declaration, Evaluated, Halt, Host, Item, View};
+use host::{Allowed, Applied, Caught, Declaration, Evaluated, Halt, Host, Item, MOST_WHOLE, View};
 use rows::VarRow;
 
 /// A host that evaluates the expressions of a table, by code. It is generic in the table, so that it knows nothing of how
@@ -27,9 +27,6 @@ impl<'a> TableHost<&'a [SiteExpr]> {
         TableHost { table }
     }
 }
-
-/// The largest number that reads as a whole one.
-const MOST_WHOLE: u32 = 1_000_000_000;
 
 /// How many variables are in use; a number past the rows counts as all of them.
 fn in_use(vars: &[VarRow<SiteValue>], used: usize) -> usize
