@@ -1,6 +1,6 @@
 //! The site as described so far.
 
-use crate::line::{Expression, Operator};
+use crate::line::Expression;
 use anyhow::anyhow;
 use host::{Evaluated, Host, View};
 use resolve::{PathRow, Resolved, Resolver, TableResolver};
@@ -30,17 +30,6 @@ fn put_name(text: &mut String, source: Source, name: &str) -> anyhow::Result<Pla
         offset,
         length,
     })
-}
-
-/// An operator over two operands.
-fn joined(left: Operand, operator: Operator, right: Operand) -> SiteExpr {
-    match operator {
-        Operator::Add => SiteExpr::Add(left, right),
-        Operator::Subtract => SiteExpr::Subtract(left, right),
-        Operator::Less => SiteExpr::Less(left, right),
-        Operator::Equal => SiteExpr::Equal(left, right),
-        Operator::Range => SiteExpr::Range(left, right),
-    }
 }
 
 impl Described {
@@ -81,12 +70,10 @@ impl Described {
                 let place = put_name(&mut self.rule, Source::Rule, name)?;
                 Some(SiteExpr::Operand(Operand::Variable(place)))
             }
-            Expression::Two(left, operator, right) => {
-                match (self.operand(left), self.operand(right)) {
-                    (Some(left), Some(right)) => Some(joined(left, operator, right)),
-                    _ => None,
-                }
-            }
+            Expression::Two(left, operator, right) => self
+                .operand(left)
+                .zip(self.operand(right))
+                .map(|(left, right)| SiteExpr::Binary(operator, left, right)),
         })
     }
 

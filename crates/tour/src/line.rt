@@ -4,17 +4,7 @@ use host::Fault;
 use image::Position;
 use resolve::Resolved;
 use rows::Access;
-use site::SiteValue;
-
-/// What stands between two operands.
-#[derive(Clone, Copy)]
-pub enum Operator {
-    Add,
-    Subtract,
-    Less,
-    Equal,
-    Range,
-}
+use site::{Operator, SiteValue};
 
 /// An expression as it is written. The operands of an operator are the codes of earlier expressions.
 #[derive(Clone, Copy)]
@@ -39,21 +29,14 @@ fn read_value(word: &str) -> Option<SiteValue> {
         "unit" => Some(SiteValue::Unit),
         "true" => Some(SiteValue::Truth(true)),
         "false" => Some(SiteValue::Truth(false)),
-        _ => match word.parse::<i64>() {
-            Ok(number) => Some(SiteValue::Number(number)),
-            Err(_) => None,
-        },
+        _ => word.parse::<i64>().ok().map(SiteValue::Number),
     }
 }
 
 /// A name begins with a letter and is no value, since an expression could not tell it from one.
 fn read_name(word: &str) -> Option<&str> {
     let first = word.bytes().next()?;
-    if first.is_ascii_alphabetic() && read_value(word).is_none() {
-        Some(word)
-    } else {
-        None
-    }
+    (first.is_ascii_alphabetic() && read_value(word).is_none()).then_some(word)
 }
 
 fn read_operator(word: &str) -> Option<Operator> {
@@ -69,9 +52,9 @@ fn read_operator(word: &str) -> Option<Operator> {
 
 /// The fault of a broken path: the description has no position for it, and a rule may catch it.
 fn fault(code: u16) -> Resolved {
-    Resolved::Fault(Fault {
+    Err(Fault {
         code,
-        at: Position { line: 0, column: 0 },
+        at: Position::NONE,
         catchable: true,
     })
 }
@@ -79,7 +62,7 @@ fn fault(code: u16) -> Resolved {
 fn read_operand<'a>(word: &'a str) -> Option<Expression<'a>> {
     match read_value(word) {
         Some(value) => Some(Expression::Value(value)),
-        None => Some(Expression::Variable(read_name(word)?)),
+        None => read_name(word).map(Expression::Variable),
     }
 }
 
@@ -108,12 +91,10 @@ pub fn read_line<'a>(words: &[&'a str]) -> Option<Line<'a>> {
         ["expression", left, operator, right] => {
             Some(Line::Expression(read_two(left, operator, right)?))
         }
-        ["module", path, "=", "none"] => {
-            Some(Line::Module(path.parse::<u32>().ok()?, Resolved::NotFound))
-        }
+        ["module", path, "=", "none"] => { Some(Line::Module(path.parse::<u32>().ok()?, Ok(None))) }
         ["module", path, "=", module] => Some(Line::Module(
             path.parse::<u32>().ok()?,
-            Resolved::Module(module.parse::<u32>().ok()?),
+            Ok(Some(module.parse::<u32>().ok()?)),
         )),
         ["module", path, "=", "fault", code] => Some(Line::Module(
             path.parse::<u32>().ok()?,

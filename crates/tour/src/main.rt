@@ -32,10 +32,10 @@ fn follow<'a>(site: &mut Described, line: Line<'a>) -> anyhow::Result<Option<Tol
             site.add_name(name, access, value)?;
             Ok(Some(Told::Name(name, access, value)))
         }
-        Line::Expression(expression) => Ok(match site.add_expression(expression)? {
-            Some(code) => Some(Told::Expression(code, expression)),
-            None => None,
-        }),
+        Line::Expression(expression) => Ok(
+            site.add_expression(expression)?
+                .map(|code| Told::Expression(code, expression)),
+        ),
         Line::Module(path, answer) => {
             site.add_module(path, answer)?;
             Ok(Some(Told::Module(path, answer)))
@@ -47,10 +47,7 @@ fn follow<'a>(site: &mut Described, line: Line<'a>) -> anyhow::Result<Option<Tol
 
 /// Whether a line is empty or a remark.
 fn says_nothing(words: &[&str]) -> bool {
-    match words.first() {
-        Some(word) => word.starts_with('#'),
-        None => true,
-    }
+    words.first().is_none_or(|word| word.starts_with('#'))
 }
 
 fn print_not_understood(rt: &HostRuntime, number: u64) -> anyhow::Result<()> {
@@ -83,9 +80,8 @@ fn print_line(
 /// Lines are read as bytes, because one that is no text is to be passed over and not to end the run.
 fn run(rt: &HostRuntime) -> anyhow::Result<()> {
     let mut site = Described::new(rt.alloc());
-    let mut number = 0u64;
-    for line in BufReader::new(rt.alloc(), rt.stdin())?.split(rt.alloc(), b'\n') {
-        number = number.saturating_add(1);
+    let lines = BufReader::new(rt.alloc(), rt.stdin())?.split(rt.alloc(), b'\n');
+    for (number, line) in (1u64..).zip(lines) {
         match from_utf8(line?.as_slice()) {
             Ok(text) => print_line(rt, &mut site, number, text)?,
             Err(_) => print_not_understood(rt, number)?,

@@ -1,7 +1,7 @@
 //! What was done, in words.
 
-use crate::line::{Expression, Operator};
-use host::Evaluated;
+use crate::line::Expression;
+use host::{Evaluated, Halt};
 use resolve::Resolved;
 use rows::Access;
 use site::SiteValue;
@@ -17,68 +17,28 @@ pub enum Told<'a> {
     Resolved(u32, Resolved),
 }
 
-#[derive(Clone, Copy)]
-struct Shown(SiteValue);
-
-impl fmt::Display for Shown {
+impl<'a> fmt::Display for Expression<'a> {
     fn fmt<W: fmt::Write>(&self, f: &mut fmt::Formatter<W>) -> fmt::Result {
-        match self.0 {
-            SiteValue::Unit => write!(f, "unit"),
-            SiteValue::Truth(truth) => write!(f, "{truth}"),
-            SiteValue::Number(number) => write!(f, "{number}"),
-            SiteValue::Range(first, end) => write!(f, "{first}..{end}"),
-        }
-    }
-}
-
-fn sign(operator: Operator) -> &'static str {
-    match operator {
-        Operator::Add => "+",
-        Operator::Subtract => "-",
-        Operator::Less => "<",
-        Operator::Equal => "=",
-        Operator::Range => "..",
-    }
-}
-
-#[derive(Clone, Copy)]
-struct Written<'a>(Expression<'a>);
-
-impl<'a> fmt::Display for Written<'a> {
-    fn fmt<W: fmt::Write>(&self, f: &mut fmt::Formatter<W>) -> fmt::Result {
-        match self.0 {
-            Expression::Value(value) => write!(f, "the value {}", Shown(value)),
+        match self {
+            Expression::Value(value) => write!(f, "the value {value}"),
             Expression::Variable(name) => write!(f, "the variable {name}"),
             Expression::Two(left, operator, right) => {
-                let sign = sign(operator);
-                write!(f, "code {left} {sign} code {right}")
+                write!(f, "code {left} {operator} code {right}")
             }
         }
     }
 }
 
-#[derive(Clone, Copy)]
-struct Answer(Evaluated<SiteValue>);
-
-impl fmt::Display for Answer {
-    fn fmt<W: fmt::Write>(&self, f: &mut fmt::Formatter<W>) -> fmt::Result {
-        match self.0 {
-            Evaluated::Value(value) => write!(f, "{}", Shown(value)),
-            Evaluated::Fault(fault) => write!(f, "fault {}", fault.code),
-            Evaluated::Exit(value) => write!(f, "exit with {}", Shown(value)),
-        }
-    }
-}
-
+/// What stands under a path.
 #[derive(Clone, Copy)]
 struct Found(Resolved);
 
 impl fmt::Display for Found {
     fn fmt<W: fmt::Write>(&self, f: &mut fmt::Formatter<W>) -> fmt::Result {
         match self.0 {
-            Resolved::Module(module) => write!(f, "module {module}"),
-            Resolved::NotFound => write!(f, "not found"),
-            Resolved::Fault(fault) => write!(f, "fault {}", fault.code),
+            Ok(Some(module)) => write!(f, "module {module}"),
+            Ok(None) => write!(f, "not found"),
+            Err(fault) => write!(f, "fault {}", fault.code),
         }
     }
 }
@@ -93,12 +53,17 @@ fn word(access: Access) -> &'static str {
 impl<'a> fmt::Display for Told<'a> {
     fn fmt<W: fmt::Write>(&self, f: &mut fmt::Formatter<W>) -> fmt::Result {
         match *self {
-            Told::Name(name, access, value) => {
-                write!(f, "{} {name} = {}", word(access), Shown(value))
-            }
-            Told::Expression(code, expression) => write!(f, "code {code}: {}", Written(expression)),
+            Told::Name(name, access, value) => write!(f, "{} {name} = {value}", word(access)),
+            Told::Expression(code, expression) => write!(f, "code {code}: {expression}"),
             Told::Module(path, answer) => write!(f, "path {path}: {}", Found(answer)),
-            Told::Evaluated(code, answer) => write!(f, "evaluate {code}: {}", Answer(answer)),
+            Told::Evaluated(code, answer) => {
+                write!(f, "evaluate {code}: ")?;
+                match answer {
+                    Ok(value) => value.fmt(f),
+                    Err(Halt::Fault(fault)) => write!(f, "fault {}", fault.code),
+                    Err(Halt::Exit(value)) => write!(f, "exit with {value}"),
+                }
+            }
             Told::Resolved(path, answer) => write!(f, "resolve {path}: {}", Found(answer)),
         }
     }
