@@ -1,6 +1,5 @@
 -- the site host keeps the rules of every host
 use Rattle.std.specs.Prelude.{◌≡◌, ℕ, Bool, true, false, cond, List, Some, None, Ok, Err, ◌≢◌, nat_le, refl}
-use Rattle.std.proofs.Common.{arith}
 use Rattle.std.proofs.lemmas.Bool.{le-leb, cond-true}
 use Rattle.host.specs.declared.answers.NoItem.TheVariants as no_item
 use Rattle.host.specs.Meaning.{HostLaws, most_whole}
