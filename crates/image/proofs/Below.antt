@@ -1,11 +1,7 @@
 -- tests and sums over the numbers below n
 use Rattle.std.proofs.Common.{◌≡◌, ℕ, zero, suc, ◌+◌, ◌<◌, Bool, true, false, sym, refl, ap, ◌∙◌, inl, inr, add-one, arith}
-use Rattle.std.proofs.lemmas.Bool.{cases_eq, and_left, and_right, and_from, and_parts}
+use Rattle.std.proofs.lemmas.Bool.{cases_eq, and_left, and_right, and_parts}
 use Rattle.image.specs.Bytes.{all_below, sum_below}
-
--- one number more
-pub all_more : (p : ℕ → Bool) (n : ℕ) → all_below p n ≡ true → p n ≡ true → all_below p (n + 1) ≡ true
-all_more p n h e = rw add-one (and_from (p n) (all_below p n) e h)
 
 -- one that fails is enough
 pub all_fails : (p : ℕ → Bool) (n k : ℕ) → k < n → p k ≡ false → all_below p n ≡ false

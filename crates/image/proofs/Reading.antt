@@ -1,9 +1,8 @@
 -- a row that is cut out of an image reads as it does in the image
-use Rattle.std.proofs.Common.{◌≡◌, ℕ, ◌+◌, ◌*◌, ◌-◌, ◌<◌, ◌≤◌, length, slice_index, take, drop, List, Option, Bor, Some, None, MatchOption, sym, ap, ap₂, ◌∙◌, arith, rules}
+use Rattle.std.proofs.Common.{◌≡◌, ℕ, ◌+◌, ◌*◌, ◌-◌, ◌<◌, ◌≤◌, length, slice_index, take, drop, List, Option, Bor, Some, None, MatchOption, ap, ◌∙◌, arith, rules}
 use Rattle.std.proofs.Math.Nat.{add_assoc, add-zero, mul-le-mul_left}
 use Rattle.std.proofs.lemmas.List.{get_or-take, get_or-drop, length-drop, take_all}
 use Rattle.std.specs.Array.{IsFirstChunk}
-use Rattle.image.specs.Bytes.{word}
 use Rattle.image.specs.Rows.{block_from, expr_from, fields_from}
 
 byte_cut : (s : List ℕ) (a n k : ℕ) → k < n → slice_index (take n (drop a s)) k ≡ slice_index s (a + k)

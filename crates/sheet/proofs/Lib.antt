@@ -1,5 +1,4 @@
 mod Fitting
-mod Putting
 mod Decoding
 mod Tables
 mod Reading

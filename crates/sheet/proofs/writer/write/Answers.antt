@@ -5,9 +5,16 @@ use Rattle.sheet.specs.Ranges.{in_range}
 use Rattle.sheet.proofs.Reading.{reads_as, header_back}
 use Rattle.sheet.proofs.writer.write.Goals as goal
 
-pub returns : goal.returns
-returns c =
+pub returns-clause-reads : goal.returns-clause-reads
+returns-clause-reads c =
     let x = c.args.sheet in
     let range : in_range x ≡ true = sym c.if-not-in_range.ensures in
     let e : vec_items c.in_ok-image_of.field-0 ≡ written x = c.in_ok-image_of.ensures in
-    record { bytes = e; reads = subst (λ v. ReadsAs v x) (sym e) (reads_as x range); header = subst (λ v. checked v ≡ examined v) (sym e) (header_back x range); range = range }
+    subst (λ v. ReadsAs v x) (sym e) (reads_as x range)
+
+pub returns-clause-header : goal.returns-clause-header
+returns-clause-header c =
+    let x = c.args.sheet in
+    let range : in_range x ≡ true = sym c.if-not-in_range.ensures in
+    let e : vec_items c.in_ok-image_of.field-0 ≡ written x = c.in_ok-image_of.ensures in
+    subst (λ v. checked v ≡ examined v) (sym e) (header_back x range)

@@ -1,4 +1,3 @@
-use Rattle.std.proofs.Common.{rules, arith}
 use Rattle.image.proofs.Reading.{first_row}
 use Rattle.image.proofs.tables.Tables.row.Goals as goal
 
