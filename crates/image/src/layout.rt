@@ -10,6 +10,13 @@ pub const MOST_EXPRESSIONS: usize = 1024;
 /// The most bytes that an image's name text has.
 pub const MOST_TEXT: usize = 2048;
 
+/// The most bytes that an image has, with its header.
+pub const MOST_BYTES: usize = 14
+    + 4 * MOST_BLOCKS
+    + 20 * MOST_STATEMENTS
+    + 8 * MOST_EXPRESSIONS
+    + MOST_TEXT;
+
 /// Where the tables of an image begin, in bytes, and how many rows each has.
 #[derive(Clone, Copy, PartialEq, Eq, Debug)]
 pub struct Layout {

@@ -10,7 +10,7 @@ mod rows;
 mod tables;
 
 pub use fields::Fields;
-pub use layout::{Layout, MOST_BLOCKS, MOST_EXPRESSIONS, MOST_STATEMENTS, MOST_TEXT};
+pub use layout::{Layout, MOST_BLOCKS, MOST_BYTES, MOST_EXPRESSIONS, MOST_STATEMENTS, MOST_TEXT};
 pub use refusal::Refusal;
 pub use rows::{Block, Expr, ExprKind, Name, Parts, Position, Stmt, StmtRow};
 pub use tables::Tables;

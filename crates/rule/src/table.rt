@@ -7,7 +7,7 @@ ghost use Rattle.rule.specs.Summaries.{absent, entry, of_row, of_block, cost, Ro
 
 use crate::summary::Summary;
 use crate::tree::Tree;
-use image::{MOST_BLOCKS, Tables};
+use image::MOST_BLOCKS;
 
 fn entry(table: &[Summary; MOST_BLOCKS], n: u16) -> Summary
     ensures { result ≡ entry table.now n }
@@ -21,39 +21,39 @@ fn named(table: &[Summary; MOST_BLOCKS], reference: Option<u16>) -> Summary
     reference.map_or(Summary::ABSENT, |n| entry(table, n))
 }
 
-/// Statement `k` of block `b`, by the table.
-fn of_row(tables: &Tables, table: &[Summary; MOST_BLOCKS], b: usize, k: u16) -> Summary
-    requires heights { (n : ℕ) → (entry table.now n).height ≤ 257 }
-    requires costs { cost tables.now.image.now (entry table.now) b k < 4294967296 }
-    ensures { result ≡ of_row tables.now.image.now (entry table.now) b k }
-{
-    let block = tables.block(b);
-    let stmt = tables.stmt(block.first as usize + k as usize);
-    let parts = stmt.parts();
-    Summary::of_stmt(stmt, named(table, parts.body), named(table, parts.branch))
-}
-
-/// Block `b`, by the table.
-fn of_block(tables: &Tables, table: &[Summary; MOST_BLOCKS], b: usize) -> Summary
-    requires { Room tables.now.image.now (entry table.now) b }
-    ensures { result ≡ of_block tables.now.image.now (entry table.now) b }
-{
-    let block = tables.block(b);
-    let mut sum = Summary::EMPTY;
-    for k in 0..block.count {
-        sum = sum.joined(of_row(tables, table, b, k));
-    }
-    sum
-}
-
 impl Tree<'_> {
+    /// Statement `k` of block `b`, by the table.
+    fn of_row(&self, table: &[Summary; MOST_BLOCKS], b: usize, k: u16) -> Summary
+        requires heights { (n : ℕ) → (entry table.now n).height ≤ 257 }
+        requires costs { cost self.now.tables.image.now (entry table.now) b k < 4294967296 }
+        ensures { result ≡ of_row self.now.tables.image.now (entry table.now) b k }
+    {
+        let block = self.tables.block(b);
+        let stmt = self.tables.stmt(block.first as usize + k as usize);
+        let parts = stmt.parts();
+        Summary::of_stmt(stmt, named(table, parts.body), named(table, parts.branch))
+    }
+
+    /// Block `b`, by the table.
+    fn of_block(&self, table: &[Summary; MOST_BLOCKS], b: usize) -> Summary
+        requires { Room self.now.tables.image.now (entry table.now) b }
+        ensures { result ≡ of_block self.now.tables.image.now (entry table.now) b }
+    {
+        let block = self.tables.block(b);
+        let mut sum = Summary::EMPTY;
+        for k in 0..block.count {
+            sum = sum.joined(self.of_row(table, b, k));
+        }
+        sum
+    }
+
     /// The summaries of all blocks.
     fn summaries(&self) -> [Summary; MOST_BLOCKS]
         ensures { (n : ℕ) → entry result n ≡ summary self.now.tables.image.now n }
     {
         let mut table = [Summary::EMPTY; MOST_BLOCKS];
         for b in (0..self.tables.layout().blocks).rev() {
-            table[b] = of_block(&self.tables, &table, b);
+            table[b] = self.of_block(&table, b);
         }
         table
     }

@@ -6,11 +6,11 @@ use Rattle.rule.specs.declared.summary.Summary.{Summary}
 use Rattle.rule.specs.Summaries.{entry, of_row, cost, value}
 use Rattle.rule.proofs.Costs.{row-cost, plus-value, joined-more}
 use Rattle.rule.proofs.Sums.{part}
-use Rattle.rule.proofs.table.of_block.Goals as goal
+use Rattle.rule.proofs.tree.Tree.of_block.Goals as goal
 
 pub of_row-requires-clause-costs : goal.of_row-requires-clause-costs
 of_row-requires-clause-costs c =
-    let s = c.args.tables.now.image.now in
+    let s = c.args.self.now.tables.image.now in
     let all = ap (λ (x : Block). x.count) c.block-block.ensures in
     let lt : c.loop-k.k < (block s c.args.b).count = omega arith in
     let h = part (cost s (entry c.args.table.now) c.args.b) (block s c.args.b).count c.loop-k.k lt in
@@ -18,7 +18,7 @@ of_row-requires-clause-costs c =
 
 pub joined-sum-requires : goal.joined-sum-requires
 joined-sum-requires c =
-    let s = c.args.tables.now.image.now in
+    let s = c.args.self.now.tables.image.now in
     let f = entry c.args.table.now in
     let all = ap (λ (x : Block). x.count) c.block-block.ensures in
     let lt : c.loop-k.k < (block s c.args.b).count = omega arith in
@@ -29,7 +29,7 @@ joined-sum-requires c =
 
 pub loop-k-preserved : goal.loop-k-preserved
 loop-k-preserved c =
-    let s = c.args.tables.now.image.now in
+    let s = c.args.self.now.tables.image.now in
     let f = entry c.args.table.now in
     let e = ap (λ (x : Summary). value x.quote) c.of_row.ensures in
     let j = ap (λ (x : Summary). value x.quote) c.joined-sum.ensures in
