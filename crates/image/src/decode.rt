@@ -1,6 +1,6 @@
 //! What each kind of row reads, said once.
 
-ghost use Rattle.std.specs.Prelude.{◌≡◌, ◌==◌, ℕ, ◌+◌, ◌*◌, ◌<◌, ◌≤◌, cond, Some, None};
+ghost use Rattle.std.specs.Prelude.{◌≡◌, ◌==◌, ℕ, ◌+◌, ◌*◌, ◌<◌, ◌≤◌, if◌then◌else◌, Some, None};
 ghost use Rattle.image.specs.Rows.{name_of, flag, expr_kind, stmt_of, stmt_from, parts};
 
 use crate::fields::Fields;
@@ -8,7 +8,7 @@ use crate::rows::{ExprKind, Name, Parts, Position, Stmt, StmtRow};
 
 /// The number, unless it is the one that stands for none.
 fn unless(none: u16, n: u16) -> Option<u16>
-    ensures { result ≡ cond (n == none) None (Some n) }
+    ensures { result ≡ (if n == none then None else Some n) }
 {
     (n != none).then_some(n)
 }
