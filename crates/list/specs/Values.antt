@@ -1,5 +1,5 @@
 -- values are numbers: 0 unit, 1 false, 2 true, and n from 3 on the number n - 3
-use Rattle.std.specs.Prelude.{ℕ, ◌+◌, ◌-◌, ◌^◌, min, Bool, true, false, cond, ◌&&◌, Some, None, Option, ◌==◌, nat_le}
+use Rattle.std.specs.Prelude.{ℕ, decimal, List, ◌+◌, ◌-◌, ◌^◌, min, Bool, true, false, cond, ◌&&◌, Some, None, Option, ◌==◌, nat_le}
 use Rattle.host.specs.Meaning.{most_whole}
 use Rattle.list.specs.declared.value.ListValue.{ListValue}
 
@@ -26,3 +26,7 @@ path_in v = cond (nat_le 3 v.0) (Some (v.0 - 3)) None
 -- the same, but of numbers up to 1,000,000,000 only
 abbrev pub whole_in : ListValue → Option ℕ
 whole_in v = cond (nat_le 3 v.0 && nat_le (v.0 - 3) most_whole) (Some (v.0 - 3)) None
+
+-- a value is told by its number
+abbrev pub shown : ListValue → List ℕ
+shown v = decimal v.0

@@ -1,5 +1,5 @@
-ghost use Rattle.std.specs.Prelude.{◌≡◌};
-ghost use Rattle.list.specs.Values.{valued, truth_in, whole_in, path_in, of_truth, of_whole};
+ghost use Rattle.std.specs.Prelude.{◌≡◌, Some};
+ghost use Rattle.list.specs.Values.{valued, truth_in, whole_in, path_in, of_truth, of_whole, shown};
 
 use host::MOST_WHOLE;
 use rows::Unital;
@@ -19,6 +19,8 @@ impl Unital for ListValue {
 
 /// A value is told by its number.
 impl fmt::Display for ListValue {
+    ghost output = { λ v. Some (shown v) };
+
     fn fmt<W: fmt::Write>(&self, f: &mut fmt::Formatter<W>) -> fmt::Result {
         self.0.fmt(f)
     }

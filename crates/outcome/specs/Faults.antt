@@ -1,5 +1,5 @@
 -- how runs end and calls are refused: for each case its number and its data; and which faults a catch takes
-use Rattle.std.specs.Prelude.{Bool, true, false, ℕ}
+use Rattle.std.specs.Prelude.{Bool, true, false, ℕ, List, codes}
 use Rattle.image.specs.declared.rows.Position.{Position}
 use Rattle.rows.specs.declared.place.Place.{Place}
 use Rattle.outcome.specs.declared.Outcome.{Outcome}
@@ -77,3 +77,9 @@ refusal_number Limits = 8
 refusal_number Rows = 9
 refusal_number Name = 10
 refusal_number Full = 11
+
+abbrev pub refusal_words : SessionRefusal → List ℕ
+refusal_words Limits = codes "a limit is out of its range"
+refusal_words Rows = codes "too few rows are lent"
+refusal_words Name = codes "a name is empty, or outside the site's text"
+refusal_words Full = codes "there are as many names as the limit allows"

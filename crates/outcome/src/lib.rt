@@ -1,8 +1,8 @@
 //! How a run ends.
 #![tactic(auto)]
 
-ghost use Rattle.std.specs.Prelude.{◌≡◌};
-ghost use Rattle.outcome.specs.Faults.{number, catchable, outcome_number, refusal_number};
+ghost use Rattle.std.specs.Prelude.{◌≡◌, Some};
+ghost use Rattle.outcome.specs.Faults.{number, catchable, outcome_number, refusal_number, refusal_words};
 
 use image::Position;
 use rows::Place;
@@ -76,6 +76,8 @@ impl SessionRefusal {
 }
 
 impl fmt::Display for SessionRefusal {
+    ghost output = { λ r. Some (refusal_words r) };
+
     fn fmt<W: fmt::Write>(&self, f: &mut fmt::Formatter<W>) -> fmt::Result {
         f.write_str(match self {
             SessionRefusal::Limits => "a limit is out of its range",

@@ -1,5 +1,6 @@
 -- the values of the scripted host, and what is read of them
-use Rattle.std.specs.Prelude.{ℕ, ◌-◌, ◌^◌, min, Bool, true, false, cond, ℤ, pos, negsuc, Some, None, Option, nat_le}
+use Rattle.std.specs.Prelude.{ℕ, ◌++◌, codes, decimal, List, ◌-◌, ◌^◌, min, Bool, true, false, cond, ℤ, pos, negsuc, Some, None, Option, nat_le}
+use Rattle.std.specs.Fmt.{signed_decimal}
 use Rattle.script.specs.declared.value.ScriptValue.{ScriptValue}
 use Rattle.script.specs.declared.value.ScriptValue.TheVariants.{Unit as TheUnit, Truth, Number, Range, Seq}
 
@@ -33,3 +34,12 @@ number_up_to most TheUnit = None
 number_up_to most (Truth b) = None
 number_up_to most (Range a b) = None
 number_up_to most (Seq k) = None
+
+-- a value in words
+abbrev pub shown : ScriptValue → List ℕ
+shown TheUnit = codes "unit"
+shown (Truth true) = codes "true"
+shown (Truth false) = codes "false"
+shown (Number n) = signed_decimal n
+shown (Range a b) = signed_decimal a ++ codes ".." ++ signed_decimal b
+shown (Seq k) = codes "seq " ++ decimal k

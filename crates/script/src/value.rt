@@ -1,6 +1,6 @@
-ghost use Rattle.std.specs.Prelude.{◌≡◌};
+ghost use Rattle.std.specs.Prelude.{◌≡◌, Some};
 ghost use Rattle.script.specs.declared.value.ScriptValue.TheVariants.{Unit as TheUnit};
-ghost use Rattle.script.specs.Values.{truth_in, number_up_to, count_of};
+ghost use Rattle.script.specs.Values.{truth_in, number_up_to, count_of, shown};
 
 use rows::Unital;
 use std::fmt;
@@ -26,6 +26,8 @@ impl Unital for ScriptValue {
 }
 
 impl fmt::Display for ScriptValue {
+    ghost output = { λ v. Some (shown v) };
+
     fn fmt<W: fmt::Write>(&self, f: &mut fmt::Formatter<W>) -> fmt::Result {
         match self {
             ScriptValue::Unit => write!(f, "unit"),

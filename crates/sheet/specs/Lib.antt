@@ -1,3 +1,4 @@
 pub mod Encoding
 pub mod Ranges
 pub mod Images
+pub mod Words

@@ -1,8 +1,9 @@
-ghost use Rattle.std.specs.Prelude.{◌≡◌, true, ◌++◌, IfOk, OnOk, MatchResult};
+ghost use Rattle.std.specs.Prelude.{◌≡◌, true, ◌++◌, IfOk, OnOk, MatchResult, Some};
 ghost use Rattle.std.specs.List.{flat_map};
 ghost use Rattle.rule.specs.Checked.{checked, examined};
 ghost use Rattle.sheet.specs.Images.{tables, written, ReadsAs, Fails};
 ghost use Rattle.sheet.specs.Ranges.{in_range};
+ghost use Rattle.sheet.specs.Words.{words};
 ghost use Rattle.sheet.specs.declared.writer.Unwritten.TheVariants.{Memory};
 
 use crate::bytes::{Written, header};
@@ -22,6 +23,8 @@ pub enum Unwritten {
 }
 
 impl fmt::Display for Unwritten {
+    ghost output = { λ e. Some (words e) };
+
     fn fmt<W: fmt::Write>(&self, f: &mut fmt::Formatter<W>) -> fmt::Result {
         f.write_str(match self {
             Unwritten::Range => "rows that no image can hold",

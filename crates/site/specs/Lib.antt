@@ -4,3 +4,4 @@ pub mod Questions
 pub mod Meaning
 pub mod Laws
 pub mod Tables
+pub mod Words

@@ -1,3 +1,6 @@
+ghost use Rattle.std.specs.Prelude.{Some};
+ghost use Rattle.site.specs.Words.{sign};
+
 use crate::value::SiteValue;
 use rows::Place;
 use std::fmt;
@@ -21,6 +24,8 @@ pub enum Operator {
 }
 
 impl fmt::Display for Operator {
+    ghost output = { λ op. Some (sign op) };
+
     fn fmt<W: fmt::Write>(&self, f: &mut fmt::Formatter<W>) -> fmt::Result {
         let sign = match self {
             Operator::Add => "+",

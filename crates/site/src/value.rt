@@ -1,7 +1,8 @@
-ghost use Rattle.std.specs.Prelude.{◌≡◌};
+ghost use Rattle.std.specs.Prelude.{◌≡◌, Some};
 ghost use Rattle.host.specs.declared.answers.Halt.TheVariants.{Fault as FaultHalt};
 ghost use Rattle.site.specs.declared.value.SiteValue.TheVariants.{Unit};
 ghost use Rattle.site.specs.Meaning.{fault_of};
+ghost use Rattle.site.specs.Words.{shown};
 
 use host::{Fault, Halt};
 use image::Position;
@@ -26,6 +27,8 @@ impl Unital for SiteValue {
 }
 
 impl fmt::Display for SiteValue {
+    ghost output = { λ v. Some (shown v) };
+
     fn fmt<W: fmt::Write>(&self, f: &mut fmt::Formatter<W>) -> fmt::Result {
         match self {
             SiteValue::Unit => write!(f, "unit"),
