@@ -1,5 +1,5 @@
 -- the meaning of the list host
-use Rattle.std.specs.Prelude.{ℕ, ◌+◌, Bool, false, not, cond, List, length, None, Ok, Err, nat_lt, slice_index_or}
+use Rattle.std.specs.Prelude.{ℕ, ◌+◌, Bool, true, false, cond, List, length, None, Ok, Err, nat_lt, slice_index_or}
 use Rattle.host.specs.declared.answers.Halt.TheVariants as halt
 use Rattle.host.specs.declared.answers.Fault.{Fault}
 use Rattle.host.specs.declared.answers.NoItem.TheVariants.{NotIterable}
@@ -29,7 +29,8 @@ onward entries next = cond (nat_lt next (length entries)) (next + 1) next
 
 -- no, if the name is there already
 abbrev pub unless_present : Bool → Allowed
-unless_present present = Ok (not present)
+unless_present true = Ok false
+unless_present false = Ok true
 
 -- evaluate takes an entry, and no call changes a variable
 abbrev pub list_meaning : HostMeaning ListHost ListValue

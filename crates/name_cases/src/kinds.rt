@@ -2,6 +2,7 @@
 
 ghost use Rattle.name_cases.specs.declared.kinds.Level.TheVariants.{Off};
 
+use crate::places::NO_NAME;
 use rows::{Access, Blank, ImportRow, Named, Place, Unital, VarRow};
 use std::alloc::{AllocError, Global};
 
@@ -40,7 +41,7 @@ impl Sample for VarRow<Level> {
     }
 
     fn blank_row() -> VarRow<Level> {
-        VarRow::new(Place::NONE, Access::ReadWrite, Level::Off)
+        VarRow::new(NO_NAME, Access::ReadWrite, Level::Off)
     }
 }
 
@@ -52,7 +53,7 @@ impl Sample for ImportRow {
     }
 
     fn blank_row() -> ImportRow {
-        ImportRow::new(Place::NONE, 0)
+        ImportRow::new(NO_NAME, 0)
     }
 }
 

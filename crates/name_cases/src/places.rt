@@ -36,6 +36,9 @@ pub const LOAD_IN_SITE: Place = place!(Site, 4, 4);
 /// The name `lo`, at the very end of its text.
 pub const LO_IN_SITE: Place = place!(Site, 8, 2);
 
+/// What stands for no name, written out as the rules have it.
+pub const NO_NAME: Place = place!(Rule, 0, 0);
+
 /// A place whose last byte is one past the rule's text.
 pub const PAST_RULE: Place = place!(Rule, 5, 4);
 
@@ -99,7 +102,7 @@ static CASES: [PlaceCase; 16] = [
     },
     PlaceCase {
         name: "no name",
-        place: Place::NONE,
+        place: NO_NAME,
         text: "",
     },
     PlaceCase {
@@ -162,7 +165,7 @@ static IN_NO_TEXTS: [PlaceCase; 3] = [
     },
     PlaceCase {
         name: "no name, no texts",
-        place: Place::NONE,
+        place: NO_NAME,
         text: "",
     },
 ];

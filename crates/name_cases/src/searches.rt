@@ -1,7 +1,9 @@
 //! The search by name, from the last row in use.
 
 use crate::kinds::{Sample, samples};
-use crate::places::{FEED_IN_RULE, FEED_IN_SITE, LOAD_IN_RULE, LOAD_IN_SITE, PAST_RULE, texts};
+use crate::places::{
+    FEED_IN_RULE, FEED_IN_SITE, LOAD_IN_RULE, LOAD_IN_SITE, NO_NAME, PAST_RULE, texts,
+};
 use crate::tally::{Section, Tally};
 use names::search;
 use rows::{Named, Place};
@@ -18,7 +20,7 @@ static NAMES: [Place; 6] = [
     LOAD_IN_RULE,
     FEED_IN_SITE,
     LOAD_IN_SITE,
-    Place::NONE,
+    NO_NAME,
     PAST_RULE,
     FEED_IN_RULE,
 ];

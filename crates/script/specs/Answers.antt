@@ -29,7 +29,8 @@ abbrev pub eval_answer : ℕ → Bool → List Row → EvalAnswer → Evaluated 
 eval_answer code mark rows answer = answer_in code mark rows (length rows) answer
 
 abbrev pub yes_if : Bool → Allowed
-yes_if b = Ok b
+yes_if true = Ok true
+yes_if false = Ok false
 
 abbrev pub constant_is : Access → Bool
 constant_is access.ReadWrite = false
