@@ -1,9 +1,9 @@
 -- how runs end and calls are refused: for each case its number and its data; and which faults a catch takes
-use Rattle.std.specs.Prelude.{Bool, true, false, ℕ, List, codes}
+use Rattle.std.specs.Prelude.{Bool, true, false, ℕ, List, Ok, Err, Result, codes}
 use Rattle.image.specs.declared.rows.Position.{Position}
 use Rattle.rows.specs.declared.place.Place.{Place}
-use Rattle.outcome.specs.declared.Outcome.{Outcome}
-use Rattle.outcome.specs.declared.Outcome.TheVariants.{Value, Stopped, Failed, Exited}
+use Rattle.outcome.specs.declared.Ending.{Ending}
+use Rattle.outcome.specs.declared.Ending.TheVariants.{Stopped, Failed, Exited}
 use Rattle.outcome.specs.declared.SessionRefusal.{SessionRefusal}
 use Rattle.outcome.specs.declared.SessionRefusal.TheVariants.{Limits, Rows, Name, Full}
 use Rattle.outcome.specs.declared.RunFault.{RunFault}
@@ -56,6 +56,10 @@ catchable (Resolver c t) = t
 catchable (Thrown v) = true
 catchable (Host c t) = t
 
+-- how a run ends, as the source's alias has it
+abbrev pub Outcome : Type 0 → Type 0
+Outcome V = Result V (Ending V)
+
 -- a run ends with a value, or with a number, data and position
 pub record Told (V : Type 0) : Type 0 where
   pub number : ℕ
@@ -63,10 +67,10 @@ pub record Told (V : Type 0) : Type 0 where
   pub at : Position
 
 abbrev pub told : {V : Type 0} → Outcome V → Told V
-told (Value v) = record { number = 0; holds = value v; at = record { line = 0; column = 0 } }
-told (Stopped p) = record { number = 12; holds = nothing; at = p }
-told (Failed f) = record { number = (listed f.fault).number; holds = (listed f.fault).holds; at = f.at }
-told (Exited v p) = record { number = 26; holds = value v; at = p }
+told (Ok v) = record { number = 0; holds = value v; at = record { line = 0; column = 0 } }
+told (Err (Stopped p)) = record { number = 12; holds = nothing; at = p }
+told (Err (Failed f)) = record { number = (listed f.fault).number; holds = (listed f.fault).holds; at = f.at }
+told (Err (Exited v p)) = record { number = 26; holds = value v; at = p }
 
 abbrev pub outcome_number : {V : Type 0} → Outcome V → ℕ
 outcome_number o = (told o).number

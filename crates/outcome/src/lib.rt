@@ -41,16 +41,18 @@ pub struct Failure<V> {
     pub at: Position,
 }
 
-/// How a run ends.
-#[derive(Clone, Copy, PartialEq, Eq, Debug)]
-pub enum Outcome<V> {
-    Value(V),
+/// How a run ends that has no value.
+#[derive(Clone, Copy, Debug, PartialEq, Eq)]
+pub enum Ending<V> {
     /// A charge passed the limit of operations, at this position.
     Stopped(Position),
     Failed(Failure<V>),
     /// The host asked for an exit, which was not to count as a value.
     Exited { value: V, at: Position },
 }
+
+/// How a run ends.
+pub type Outcome<V> = Result<V, Ending<V>>;
 
 /// Why a call of a session is refused, with the number that it is told by. The reasons are tested in this order, and a
 /// refused call changes nothing.
@@ -90,17 +92,15 @@ impl fmt::Display for SessionRefusal {
 
 impl Error for SessionRefusal {}
 
-impl<V: Copy> Outcome<V> {
-    /// The number of the fault that ended the run, and 0 for a value.
-    pub fn number(self) -> u8
-        ensures { result ≡ outcome_number self }
-    {
-        match self {
-            Outcome::Value(_) => 0,
-            Outcome::Stopped(_) => 12,
-            Outcome::Failed(failure) => failure.fault.number(),
-            Outcome::Exited { .. } => 26,
-        }
+/// The number of what ended the run, and 0 for a value.
+pub fn outcome_number<V: Copy>(outcome: Outcome<V>) -> u8
+    ensures { result ≡ outcome_number outcome }
+{
+    match outcome {
+        Ok(_) => 0,
+        Err(Ending::Stopped(_)) => 12,
+        Err(Ending::Failed(failure)) => failure.fault.number(),
+        Err(Ending::Exited { .. }) => 26,
     }
 }
 

@@ -7,8 +7,7 @@ use Rattle.rows.specs.declared.variable.VarRow.{VarRow}
 use Rattle.rows.specs.Rows.{in_use}
 use Rattle.host.specs.Meaning.{HostMeaning, place_of}
 use Rattle.resolve.specs.Answers.{Resolved}
-use Rattle.outcome.specs.declared.Outcome.{Outcome}
-use Rattle.outcome.specs.Faults.{outcome_number}
+use Rattle.outcome.specs.Faults.{Outcome, outcome_number}
 use Rattle.run.specs.Says.{After, appended_at, BlocksKeep}
 use Rattle.run.specs.Session.{many_rounds, Lent, Call, Answer, refused, made, got, ran, count_of, Terms, World, Entry, calls, opened, open_refusal}
 use Rattle.run.specs.Statements.{whole}

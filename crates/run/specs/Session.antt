@@ -1,5 +1,5 @@
 -- a session: its calls, good and bad, and what each leaves
-use Rattle.std.specs.Prelude.{ℕ, ◌+◌, Bool, true, false, cond, ◌&&◌, ◌||◌, List, [], ◌∷◌, ◌++◌, length, take, drop, replicate, Some, None, Option, ◌==◌, nat_le, nat_lt, slice_index_or, slice_set}
+use Rattle.std.specs.Prelude.{ℕ, ◌+◌, Bool, true, false, cond, ◌&&◌, ◌||◌, List, [], ◌∷◌, ◌++◌, length, take, drop, replicate, Some, None, Option, Ok, Err, ◌==◌, nat_le, nat_lt, slice_index_or, slice_set}
 use Rattle.image.specs.Rows.{text_of as rule_text}
 use Rattle.rows.specs.declared.import.ImportRow.{ImportRow}
 use Rattle.rows.specs.declared.place.Place.{Place}
@@ -11,10 +11,10 @@ use Rattle.rows.specs.Rows.{in_use, variable, blank_variable, blank_import}
 use Rattle.names.specs.Lists.{last_named, name_in, rewound, shortened}
 use Rattle.host.specs.Meaning.{HostMeaning, place_of}
 use Rattle.resolve.specs.Answers.{Resolved}
-use Rattle.outcome.specs.declared.Outcome.{Outcome}
-use Rattle.outcome.specs.declared.Outcome.TheVariants as outcome
+use Rattle.outcome.specs.declared.Ending.TheVariants as ending
 use Rattle.outcome.specs.declared.SessionRefusal.{SessionRefusal}
 use Rattle.outcome.specs.declared.SessionRefusal.TheVariants.{Limits, Rows, Name, Full}
+use Rattle.outcome.specs.Faults.{Outcome}
 use Rattle.run.specs.Acts.{value, failed, broke, again, returned, exited}
 use Rattle.run.specs.Statements.{whole}
 use Rattle.run.specs.Walk.{Event, End, stopped, ended, Setting, State, Done, walk}
@@ -65,14 +65,14 @@ limited t = (nat_le 1 t.operations && nat_le t.operations 1000000000) && ((nat_l
 
 -- the end of a run as its outcome; no rule that passes the check ends by a break or continue
 abbrev pub outcome_of : {V : Type 0} → V → Bool → End V → Outcome V
-outcome_of unit exit (stopped p) = outcome.Stopped p
-outcome_of unit exit (ended (value v)) = outcome.Value v
-outcome_of unit exit (ended (failed f)) = outcome.Failed f
-outcome_of unit exit (ended (broke v)) = outcome.Value v
-outcome_of unit exit (ended again) = outcome.Value unit
-outcome_of unit exit (ended (returned v)) = outcome.Value v
-outcome_of unit true (ended (exited p v)) = outcome.Value v
-outcome_of unit false (ended (exited p v)) = outcome.Exited v p
+outcome_of unit exit (stopped p) = Err (ending.Stopped p)
+outcome_of unit exit (ended (value v)) = Ok v
+outcome_of unit exit (ended (failed f)) = Err (ending.Failed f)
+outcome_of unit exit (ended (broke v)) = Ok v
+outcome_of unit exit (ended again) = Ok unit
+outcome_of unit exit (ended (returned v)) = Ok v
+outcome_of unit true (ended (exited p v)) = Ok v
+outcome_of unit false (ended (exited p v)) = Err (ending.Exited v p)
 
 module _ (S V W : Type 0) where
   -- the session's numbers, the host, and the caller's tables
