@@ -66,7 +66,7 @@ BUGS = [
     ("a loop's names keep their access", "Walk", "redeclared r ReadWrite v)", "revalued r v)"),
     ("a loop's names stay", "Walk", "dropping s.names (noting", "dropping (s.names + 1) (noting"),
     ("a block's modules are not counted after it", "Walk", "    loaded = s.loaded;\n    level = was.level;", "    loaded = was.loaded;\n    level = was.level;"),
-    ("an exit is a value only where it is not asked for", "Session", "outcome_of unit true (ended (exited p v)) = outcome.Value v\noutcome_of unit false", "outcome_of unit false (ended (exited p v)) = outcome.Value v\noutcome_of unit true"),
+    ("an exit is a value only where it is not asked for", "Session", "outcome_of unit true (ended (exited p v)) = Ok v\noutcome_of unit false", "outcome_of unit false (ended (exited p v)) = Ok v\noutcome_of unit true"),
     ("a run keeps the imports of the last", "Session", "    bound = 0;\n    loaded = 0;", "    bound = u.bound;\n    loaded = 0;"),
     ("a name may end one past the text", "Session", "nat_lt (length t.site) (offset + size)", "nat_lt (length t.site + 1) (offset + size)"),
     ("put looks for room before the name", "Session", "refusing (nameless offset size) Name u (refusing (nat_le t.names u.names) Full u (putting", "refusing (nat_le t.names u.names) Full u (refusing (nameless offset size) Name u (putting"),
