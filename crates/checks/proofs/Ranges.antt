@@ -60,3 +60,35 @@ pub below_all : {F : Type 0} {g : Mut F (ℕ × Unit {0}) Bool} {f : F} {m : ℕ
     SomeRun nat_range_steps (record { start = 0; end = m }) (λ run. MatchBool b (IsTrue run.whole × AllItemsGive run g f true) (AnyItemGives run g f false)) →
     b ≡ all_below p n
 below_all p n b ends keeps answers ran = below_all_from p 0 n b ends (λ k lt. absurd (omega (arith, lt))) keeps (λ i r low lt. answers i r lt) ran
+
+-- a test that answers p of each number of a range, counted from its start
+pub below_all_span : {F : Type 0} {g : Mut F (ℕ × Unit {0}) Bool} {f : F} (span : Range ℕ) (p : ℕ → Bool) (a n : ℕ) (b : Bool) → span.start ≡ a → span.end ≡ a + n →
+    CallKeepsClosure g f → ((k : ℕ) (r : Bool) → k < n → Called g f (a + k, tt) r f → r ≡ p k) →
+    SomeRun nat_range_steps span (λ run. MatchBool b (IsTrue run.whole × AllItemsGive run g f true) (AnyItemGives run g f false)) →
+    b ≡ all_below p n
+below_all_span {F} {g} {f} span p a n true starts ends keeps answers ran = sym (all_from p n (λ k lt.
+    let here : run.at k ≡ Some (a + k) = same (run.at k) (a + k) (up.3 k (omega (arith, lt, starts, ends, up.1 ran.2.0, from, to)) ∙ ap Some (omega (arith, from, starts))) in
+    sym (answers k true lt (subst (λ o. IfSome o (λ x. Called g f (x, tt) true f)) here (ran.2.1 keeps k)))
+    ))
+  where
+    run : Run nat_range_steps
+    run = ran.0
+
+    up : ItemsCountUp run run.from.start run.from.end
+    up = range_runs run run.seen
+
+    from : run.from.start ≡ span.start
+    from = ap (λ (r : Range ℕ). r.start) ran.1
+
+    to : run.from.end ≡ span.end
+    to = ap (λ (r : Range ℕ). r.end) ran.1
+below_all_span {F} {g} {f} span p a n false starts ends keeps answers ran =
+    let run = ran.0 in
+    let up = range_runs run run.seen in
+    let from = ap (λ (r : Range ℕ). r.start) ran.1 in
+    let to = ap (λ (r : Range ℕ). r.end) ran.1 in
+    let one = ran.2 keeps in
+    let k = one.0 in
+    let lt : k < n = omega (arith, starts, ends, one.1, up.0, to, from) in
+    let here : run.at k ≡ Some (a + k) = same (run.at k) (a + k) (up.3 k one.1 ∙ ap Some (omega (arith, from, starts))) in
+    sym (all_fails p n k lt (sym (answers k false lt (subst (λ o. IsSomeAnd o (λ x. Called g f (x, tt) false f)) here one.2))))

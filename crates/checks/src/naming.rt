@@ -28,8 +28,10 @@ fn stmt_above(tables: &Tables, b: usize, j: usize) -> bool
 fn block_above(tables: &Tables, b: usize) -> bool
     ensures { result ≡ block_above tables.now.image.now b }
 {
-    let block = tables.block(b);
-    (0..block.count).all(|k| stmt_above(tables, b, block.first as usize + k as usize))
+    tables
+        .block(b)
+        .statements()
+        .all(|j| stmt_above(tables, b, j))
 }
 
 fn all_above(tables: &Tables) -> bool

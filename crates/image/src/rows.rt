@@ -1,3 +1,7 @@
+ghost use Rattle.std.specs.Prelude.{◌≡◌, ◌+◌};
+
+use std::ops::Range;
+
 /// A place in the rule's source. Line 0 and column 0 together are no place.
 #[derive(Clone, Copy, PartialEq, Eq, Debug)]
 pub struct Position {
@@ -22,6 +26,17 @@ pub struct Name {
 pub struct Block {
     pub first: u16,
     pub count: u16,
+}
+
+impl Block {
+    /// The numbers of its statements.
+    pub fn statements(self) -> Range<usize>
+        ensures start { result.start ≡ self.first }
+        ensures end { result.end ≡ self.first + self.count }
+    {
+        let first = self.first as usize;
+        first..first + self.count as usize
+    }
 }
 
 /// What an expression is: a constant, or the host's under a code.
