@@ -1,12 +1,13 @@
-ghost use Rattle.std.specs.Prelude.{◌≡◌, ℕ, ◌+◌, ◌<◌, ◌≤◌};
-ghost use Rattle.rule.specs.Tree.{plus, larger, named, holds_breaks, stmt_quote, expr_charge, expr_charges};
-ghost use Rattle.rule.specs.Summaries.{absent, entry, of_stmt, joined, value};
+//! What a statement counts, and where it holds breaks.
 
-use crate::summary::Summary;
+ghost use Rattle.std.specs.Prelude.{◌≡◌, ℕ, ◌+◌, ◌^◌, ◌<◌};
+ghost use Rattle.rule.specs.Tree.{plus, larger, holds_breaks, stmt_quote, expr_charge, expr_charges};
+ghost use Rattle.rule.specs.Summaries.{value};
+
 use image::Stmt;
 
-fn plus(a: Option<u32>, b: Option<u32>) -> Option<u32>
-    requires { value a + value b < 4294967296 }
+pub(crate) fn plus(a: Option<u32>, b: Option<u32>) -> Option<u32>
+    requires { value a + value b < 2 ^ 32 }
     ensures { result ≡ plus a b }
 {
     a.zip(b).map(|(x, y)| x + y)
@@ -32,8 +33,8 @@ fn expr_charges(expr: Option<u16>) -> u32
 }
 
 /// The quote of a statement from those of its body and its branch.
-fn stmt_quote(stmt: Stmt, body: Option<u32>, branch: Option<u32>) -> Option<u32>
-    requires { 3 + value body + value branch < 4294967296 }
+pub(crate) fn stmt_quote(stmt: Stmt, body: Option<u32>, branch: Option<u32>) -> Option<u32>
+    requires { 3 + value body + value branch < 2 ^ 32 }
     ensures { result ≡ stmt_quote stmt body branch }
 {
     match stmt {
@@ -52,7 +53,7 @@ fn stmt_quote(stmt: Stmt, body: Option<u32>, branch: Option<u32>) -> Option<u32>
 }
 
 /// Whether each break of a statement is inside a loop body, if that is known of its body and its branch.
-fn holds_breaks(stmt: Stmt, body: bool, branch: bool) -> bool
+pub(crate) fn holds_breaks(stmt: Stmt, body: bool, branch: bool) -> bool
     ensures { result ≡ holds_breaks stmt body branch }
 {
     match stmt {
@@ -60,31 +61,5 @@ fn holds_breaks(stmt: Stmt, body: bool, branch: bool) -> bool
         Stmt::Block { .. } => body,
         Stmt::If { .. } | Stmt::TryCatch { .. } => body && branch,
         _ => true,
-    }
-}
-
-impl Summary {
-    /// The summary of a statement from those of its body and its branch.
-    pub(crate) fn of_stmt(stmt: Stmt, body: Summary, branch: Summary) -> Summary
-        requires { (3 + value body.quote + value branch.quote < 4294967296) × ((body.height < 65535) × (branch.height < 65535)) }
-        ensures { result ≡ of_stmt stmt body branch }
-    {
-        Summary {
-            height: 1 + body.height.max(branch.height),
-            contained: holds_breaks(stmt, body.contained, branch.contained),
-            quote: stmt_quote(stmt, body.quote, branch.quote),
-        }
-    }
-
-    /// The summary of statements that stand together.
-    pub(crate) fn joined(self, next: Summary) -> Summary
-        requires { value self.quote + value next.quote < 4294967296 }
-        ensures { result ≡ joined self next }
-    {
-        Summary {
-            height: self.height.max(next.height),
-            contained: next.contained && self.contained,
-            quote: plus(self.quote, next.quote),
-        }
     }
 }
