@@ -29,6 +29,10 @@ of_stmt x p q = record {
 abbrev pub joined : Summary → Summary → Summary
 joined a b = record { height = max a.height b.height; contained = b.contained && a.contained; quote = plus a.quote b.quote }
 
+-- of a statement, from those of what it may name
+abbrev pub summary_of : Stmt → (Option ℕ → Summary) → Summary
+summary_of x f = of_stmt x (f (parts x).body) (f (parts x).branch)
+
 -- of statement k of block b, from those of all blocks
 abbrev pub of_row : List ℕ → (ℕ → Summary) → ℕ → ℕ → Summary
 of_row s f b k = of_stmt (stmt_in s b k) (named absent f (parts (stmt_in s b k)).body) (named absent f (parts (stmt_in s b k)).branch)
@@ -57,6 +61,10 @@ entry t n = slice_index_or t n empty
 abbrev pub value : Option ℕ → ℕ
 value None = 0
 value (Some n) = n
+
+-- at least what a statement adds to a quote
+abbrev pub cost_of : Stmt → (Option ℕ → Summary) → ℕ
+cost_of x f = 3 + value (f (parts x).body).quote + value (f (parts x).branch).quote
 
 -- at least what statement k of block b adds to the quote of the block
 abbrev pub cost : List ℕ → (ℕ → Summary) → ℕ → ℕ → ℕ

@@ -1,6 +1,8 @@
 ghost use Rattle.std.specs.Prelude.{◌≡◌, ℕ, ◌+◌, ◌^◌, ◌<◌, ◌≤◌, true};
 ghost use Rattle.checks.specs.Rules.{in_order, all_sound, named_once};
-ghost use Rattle.rule.specs.Summaries.{entry, of_row, of_block, cost, Room, summary};
+ghost use Rattle.image.specs.Rows.{stmt};
+ghost use Rattle.rule.specs.Tree.{named};
+ghost use Rattle.rule.specs.Summaries.{absent, entry, summary_of, of_block, cost_of, Room, summary};
 
 use crate::summary::Summary;
 use crate::table::Summaries;
@@ -16,14 +18,13 @@ pub(crate) struct Tree<'a> {
 }
 
 impl Tree<'_> {
-    /// Statement `k` of block `b`, by the table.
-    fn statement_summary(&self, table: &Summaries, b: usize, k: u16) -> Summary
+    /// Statement `i`, by the table.
+    fn statement_summary(&self, table: &Summaries, i: usize) -> Summary
         requires heights { (n : ℕ) → (entry table.now.0 n).height ≤ 257 }
-        requires costs { cost self.now.tables.image.now (entry table.now.0) b k < 2 ^ 32 }
-        ensures { result ≡ of_row self.now.tables.image.now (entry table.now.0) b k }
+        requires costs { cost_of (stmt self.now.tables.image.now i) (named absent (entry table.now.0)) < 2 ^ 32 }
+        ensures { result ≡ summary_of (stmt self.now.tables.image.now i) (named absent (entry table.now.0)) }
     {
-        let block = self.tables.block(b);
-        let stmt = self.tables.stmt(block.first as usize + k as usize);
+        let stmt = self.tables.stmt(i);
         let parts = stmt.parts();
         Summary::of_stmt(stmt, table.named(parts.body), table.named(parts.branch))
     }
@@ -33,10 +34,9 @@ impl Tree<'_> {
         requires { Room self.now.tables.image.now (entry table.now.0) b }
         ensures { result ≡ of_block self.now.tables.image.now (entry table.now.0) b }
     {
-        let block = self.tables.block(b);
         let mut sum = Summary::EMPTY;
-        for k in 0..block.count {
-            sum = sum.joined(self.statement_summary(table, b, k));
+        for i in self.tables.block(b).statements() {
+            sum = sum.joined(self.statement_summary(table, i));
         }
         sum
     }
