@@ -45,10 +45,12 @@ pub trait Host {
     fn binary(&self, op: u16, left: Self::Value, right: Self::Value) -> Applied<Self::Value>
         ensures { result ≡ meaning.binary op left right };
 
+    /// The unit, which is the value of a variable until it is given another.
     fn make_unit(&self) -> Self::Value
         ensures unit { result ≡ meaning.unit }
         ensures blank { result ≡ Self.Value.Unital.unit };
 
+    /// A truth as a value, which reads back as made.
     fn make_truth(&self, truth: bool) -> Self::Value
         ensures { result ≡ meaning.make_truth truth };
 
@@ -56,15 +58,19 @@ pub trait Host {
     fn make_whole(&self, number: u32) -> Self::Value
         ensures { result ≡ meaning.make_whole number };
 
+    /// Whether a value is the unit.
     fn is_unit(&self, value: Self::Value) -> bool
         ensures { result ≡ meaning.is_unit value };
 
+    /// The truth that a value stands for, if it stands for one.
     fn truth(&self, value: Self::Value) -> Option<bool>
         ensures { result ≡ meaning.truth value };
 
+    /// The whole number that a value stands for, if it stands for one.
     fn whole(&self, value: Self::Value) -> Option<u32>
         ensures { result ≡ meaning.whole value };
 
+    /// The path of a module that a value stands for, if it stands for one.
     fn path(&self, value: Self::Value) -> Option<u32>
         ensures { result ≡ meaning.path value };
 

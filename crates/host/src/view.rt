@@ -1,3 +1,5 @@
+ghost use Rattle.std.specs.Prelude.{◌≡◌, min, length};
+
 use rows::{Access, Place, Texts};
 
 /// What evaluate and allow see besides the variables.
@@ -11,7 +13,7 @@ pub struct View<'a> {
 }
 
 /// A name that is about to be declared.
-#[derive(Clone, Copy)]
+#[derive(Clone, Copy, Debug, PartialEq, Eq)]
 pub struct Declaration {
     pub name: Place,
     pub access: Access,
@@ -19,4 +21,11 @@ pub struct Declaration {
     pub level: u8,
     /// Whether a variable of that name is there already.
     pub present: bool,
+}
+
+/// How many rows are in use; a number past the rows counts as all of them.
+pub fn in_use<R>(rows: &[R], used: usize) -> usize
+    ensures { result ≡ min used (length rows.now) }
+{
+    used.min(rows.len())
 }

@@ -4,7 +4,7 @@ ghost use Rattle.list.specs.Laws.{list_laws};
 
 use crate::value::ListValue;
 use host::{
-    Allowed, Applied, Caught, Declaration, Evaluated, Fault, Halt, Host, Item, NoItem, View,
+    Allowed, Applied, Caught, Declaration, Evaluated, Fault, Halt, Host, Item, NoItem, View, in_use,
 };
 use image::Position;
 use rows::{Unital, VarRow};
@@ -17,7 +17,7 @@ pub enum ListEntry {
 }
 
 /// A lent list of entries, and the place of the next one.
-#[derive(Clone, Copy)]
+#[derive(Clone, Copy, Debug, PartialEq, Eq)]
 pub struct ListHost<'a> {
     pub entries: &'a [ListEntry],
     pub next: usize,
@@ -39,20 +39,23 @@ fn answer_of(entry: ListEntry) -> Evaluated<ListValue>
     }
 }
 
-fn next_answer(entries: &[ListEntry], next: usize) -> Evaluated<ListValue>
-    ensures { result ≡ next_answer entries.now next }
-{
-    match entries.get(next) {
-        Some(entry) => answer_of(*entry),
-        None => Err(Halt::Fault(USED_UP)),
+impl<'a> ListHost<'a> {
+    fn next_answer(self) -> Evaluated<ListValue>
+        ensures { result ≡ next_answer self.entry.entries.now self.entry.next }
+    {
+        let entry = self.entries.get(self.next).ok_or(Halt::Fault(USED_UP))?;
+        answer_of(*entry)
     }
-}
 
-/// The place after one more entry is taken; past the last it stays.
-fn place_after(entries: &[ListEntry], next: usize) -> usize
-    ensures { result ≡ onward entries.now next }
-{
-    if next < entries.len() { next + 1 } else { next }
+    /// Goes on by one entry; past the last it stays.
+    fn advance(&mut self)
+        ensures place { self.new.next ≡ onward self.old.entries.now self.old.next }
+        ensures list { self.new.entries ≡ self.old.entries }
+    {
+        if self.next < self.entries.len() {
+            self.next += 1;
+        }
+    }
 }
 
 /// A name that is there already is refused.
@@ -76,9 +79,9 @@ impl<'a> Host for ListHost<'a> {
         used: usize,
         _view: View<'_>,
     ) -> (usize, Evaluated<ListValue>) {
-        let answer = next_answer(self.entries, self.next);
-        self.next = place_after(self.entries, self.next);
-        (used.min(vars.len()), answer)
+        let answer = self.next_answer();
+        self.advance();
+        (in_use(vars, used), answer)
     }
 
     fn allow(
@@ -88,7 +91,7 @@ impl<'a> Host for ListHost<'a> {
         used: usize,
         _view: View<'_>,
     ) -> (usize, Allowed) {
-        (used.min(vars.len()), unless_present(declaration.present))
+        (in_use(vars, used), unless_present(declaration.present))
     }
 
     fn apply(&self, _op: u16, _left: ListValue, _right: ListValue) -> Applied<ListValue> {
@@ -116,15 +119,15 @@ impl<'a> Host for ListHost<'a> {
     }
 
     fn truth(&self, value: ListValue) -> Option<bool> {
-        value.truth_in()
+        value.truth()
     }
 
     fn whole(&self, value: ListValue) -> Option<u32> {
-        value.whole_in()
+        value.whole()
     }
 
     fn path(&self, value: ListValue) -> Option<u32> {
-        value.path_in()
+        value.path()
     }
 
     fn item(&self, _value: ListValue, _i: u32) -> Item<ListValue> {

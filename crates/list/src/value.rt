@@ -42,7 +42,7 @@ impl ListValue {
         ListValue(number.saturating_add(3))
     }
 
-    pub(crate) fn truth_in(self) -> Option<bool>
+    pub(crate) fn truth(self) -> Option<bool>
         ensures { result ≡ truth_in self }
     {
         match self.0 {
@@ -52,15 +52,15 @@ impl ListValue {
         }
     }
 
-    pub(crate) fn path_in(self) -> Option<u32>
+    pub(crate) fn path(self) -> Option<u32>
         ensures { result ≡ path_in self }
     {
         self.0.checked_sub(3)
     }
 
-    pub(crate) fn whole_in(self) -> Option<u32>
+    pub(crate) fn whole(self) -> Option<u32>
         ensures { result ≡ whole_in self }
     {
-        self.path_in().filter(|number| *number <= MOST_WHOLE)
+        self.path().filter(|number| *number <= MOST_WHOLE)
     }
 }

@@ -7,7 +7,7 @@ use host::{Allowed, Declaration, Evaluated, Fault, Halt};
 use rows::{Access, VarRow};
 
 /// What an entry of a script answers to an evaluation.
-#[derive(Clone, Copy)]
+#[derive(Clone, Copy, Debug, PartialEq, Eq)]
 pub enum EvalAnswer {
     Value(ScriptValue),
     Fault(Fault),
@@ -23,7 +23,7 @@ pub enum EvalAnswer {
 }
 
 /// What an entry of a script answers to a declaration.
-#[derive(Clone, Copy)]
+#[derive(Clone, Copy, Debug, PartialEq, Eq)]
 pub enum AllowAnswer {
     Yes,
     No,

@@ -4,11 +4,12 @@ ghost use Rattle.rows.specs.Rows.{in_use};
 ghost use Rattle.script.specs.Effects.{back_of, value_in, table_after, used_after, both_done};
 
 use crate::value::ScriptValue;
+use host::in_use;
 use names::append;
 use rows::{Access, Place, VarRow};
 
 /// What an entry of a script does to the variables.
-#[derive(Clone, Copy)]
+#[derive(Clone, Copy, Debug, PartialEq, Eq)]
 pub enum Effect {
     /// A read-write variable more, while there are fewer than the limit.
     Append(Place, ScriptValue),
@@ -32,10 +33,8 @@ pub(crate) fn back_of(used: usize, k: u16) -> Option<usize>
 pub(crate) fn value_in(vars: &[VarRow<ScriptValue>], at: Option<usize>) -> ScriptValue
     ensures { result ≡ value_in vars.now at }
 {
-    match at.and_then(|i| vars.get(i)) {
-        Some(row) => row.value(),
-        None => ScriptValue::Unit,
-    }
+    at.and_then(|i| vars.get(i))
+        .map_or(ScriptValue::Unit, |row| row.value())
 }
 
 /// Does an effect, and answers how many variables are in use then.
@@ -76,6 +75,6 @@ pub(crate) fn do_both(
     ensures used { result ≡ length (both_done (min limit (length vars.old)) (in_use vars.old used) first second) }
     ensures rows { vars.new ≡ over (both_done (min limit (length vars.old)) (in_use vars.old used) first second) vars.old }
 {
-    let between = do_effect(vars, used.min(vars.len()), limit, first);
+    let between = do_effect(vars, in_use(vars, used), limit, first);
     do_effect(vars, between, limit, second)
 }

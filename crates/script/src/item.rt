@@ -1,26 +1,25 @@
 ghost use Rattle.std.specs.Prelude.{◌≡◌};
-ghost use Rattle.script.specs.Items.{fault_of_kind, range_item, seq_item, item_of};
+ghost use Rattle.script.specs.Items.{fault_of_kind, seq_item, item_of};
 
 use crate::operator::fault_at;
 use crate::value::ScriptValue;
-use host::{Fault, Item, NoItem};
-
-/// Item `i` of the numbers from `from` up to `to`.
-fn range_item(from: i64, to: i64, i: u32) -> Item<ScriptValue>
-    ensures { result ≡ range_item from to i }
-{
-    // A number that 64 bits do not hold is past every range's end.
-    let item = from.checked_add(i64::from(i)).filter(|n| *n < to);
-    Ok(item.map(ScriptValue::Number))
-}
+use host::{Fault, Item, NoItem, number_in};
+use image::Position;
 
 fn fault_of_kind(kind: u16) -> Fault
     ensures { result ≡ fault_of_kind kind }
 {
     match kind {
-        1 => fault_at(61, 0, 0, true),
-        2 => fault_at(62, 90, 91, true),
-        _ => fault_at(63, 0, 0, false),
+        1 => fault_at(61, Position::NONE, true),
+        2 => fault_at(
+            62,
+            Position {
+                line: 90,
+                column: 91,
+            },
+            true,
+        ),
+        _ => fault_at(63, Position::NONE, false),
     }
 }
 
@@ -46,7 +45,7 @@ pub(crate) fn item_of(value: ScriptValue, i: u32) -> Item<ScriptValue>
     ensures { result ≡ item_of value i }
 {
     match value {
-        ScriptValue::Range(from, to) => range_item(from, to, i),
+        ScriptValue::Range(from, to) => Ok(number_in(from, to, i).map(ScriptValue::Number)),
         ScriptValue::Seq(k) => seq_item(k, i),
         _ => Err(NoItem::NotIterable),
     }

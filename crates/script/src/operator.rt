@@ -5,13 +5,12 @@ use crate::value::ScriptValue;
 use host::{Applied, Fault};
 use image::Position;
 
-/// A fault at a position; line 0 and column 0 are none.
-pub(crate) fn fault_at(code: u16, line: u16, column: u16, catchable: bool) -> Fault
-    ensures { result ≡ fault_at code line column catchable }
+pub(crate) fn fault_at(code: u16, at: Position, catchable: bool) -> Fault
+    ensures { result ≡ fault_at code at.line at.column catchable }
 {
     Fault {
         code,
-        at: Position { line, column },
+        at,
         catchable,
     }
 }
@@ -23,9 +22,16 @@ pub(crate) fn changing(op: u16, left: ScriptValue, right: ScriptValue) -> Applie
     match op {
         1 => Ok(Some(left)),
         2 => Ok(Some(right)),
-        3 => Err(fault_at(41, 0, 0, true)),
-        4 => Err(fault_at(42, 80, 81, true)),
-        5 => Err(fault_at(43, 0, 0, false)),
+        3 => Err(fault_at(41, Position::NONE, true)),
+        4 => Err(fault_at(
+            42,
+            Position {
+                line: 80,
+                column: 81,
+            },
+            true,
+        )),
+        5 => Err(fault_at(43, Position::NONE, false)),
         _ => Ok(None),
     }
 }
@@ -37,8 +43,15 @@ pub(crate) fn joining(op: u16, left: ScriptValue, right: ScriptValue) -> Applied
     match op {
         2 | 6 => Ok(Some(left)),
         7 => Ok(Some(right)),
-        8 => Err(fault_at(51, 0, 0, true)),
-        9 => Err(fault_at(52, 82, 83, false)),
+        8 => Err(fault_at(51, Position::NONE, true)),
+        9 => Err(fault_at(
+            52,
+            Position {
+                line: 82,
+                column: 83,
+            },
+            false,
+        )),
         _ => Ok(None),
     }
 }

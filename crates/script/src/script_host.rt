@@ -3,7 +3,7 @@ ghost use Rattle.script.specs.Laws.{script_laws};
 
 use crate::answer::{AllowAnswer, EvalAnswer, allow_answer, eval_answer};
 use crate::effect::do_both;
-use crate::entry::{Entry, entry_at, turn};
+use crate::entry::{Entry, next_entry};
 use crate::item::item_of;
 use crate::operator::{changing, joining};
 use crate::value::ScriptValue;
@@ -17,7 +17,7 @@ pub type EvalEntry = Entry<EvalAnswer>;
 pub type AllowEntry = Entry<AllowAnswer>;
 
 /// A lent script. Evaluations go through its one list and declarations through its other, each over and over.
-#[derive(Clone, Copy)]
+#[derive(Clone, Copy, Debug, PartialEq, Eq)]
 pub struct ScriptHost<'a> {
     pub evals: &'a [EvalEntry],
     pub allows: &'a [AllowEntry],
@@ -54,8 +54,7 @@ impl<'a> Host for ScriptHost<'a> {
         used: usize,
         view: View<'_>,
     ) -> (usize, Evaluated<ScriptValue>) {
-        let entry = entry_at(self.evals, self.evaluations, NO_EVAL);
-        self.evaluations = turn(self.evaluations, self.evals.len());
+        let entry = next_entry(self.evals, &mut self.evaluations, NO_EVAL);
         let used = do_both(vars, used, view.limit, entry.first, entry.second);
         (used, eval_answer(entry.answer, code, view.mark, vars, used))
     }
@@ -67,8 +66,7 @@ impl<'a> Host for ScriptHost<'a> {
         used: usize,
         view: View<'_>,
     ) -> (usize, Allowed) {
-        let entry = entry_at(self.allows, self.declarations, NO_ALLOW);
-        self.declarations = turn(self.declarations, self.allows.len());
+        let entry = next_entry(self.allows, &mut self.declarations, NO_ALLOW);
         let used = do_both(vars, used, view.limit, entry.first, entry.second);
         (used, allow_answer(entry.answer, declaration))
     }

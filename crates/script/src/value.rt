@@ -2,6 +2,7 @@ ghost use Rattle.std.specs.Prelude.{◌≡◌, Some};
 ghost use Rattle.script.specs.declared.value.ScriptValue.TheVariants.{Unit as TheUnit};
 ghost use Rattle.script.specs.Values.{truth_in, number_up_to, count_of, shown};
 
+use host::number_up_to;
 use rows::Unital;
 use std::fmt;
 
@@ -61,7 +62,7 @@ impl ScriptValue {
         ensures { result ≡ number_up_to most self }
     {
         match self {
-            ScriptValue::Number(n) => u32::try_from(n).ok().filter(|n| *n <= most),
+            ScriptValue::Number(n) => number_up_to(n, most),
             _ => None,
         }
     }

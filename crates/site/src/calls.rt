@@ -1,4 +1,4 @@
-ghost use Rattle.std.specs.Prelude.{◌≡◌, min, length};
+ghost use Rattle.std.specs.Prelude.{◌≡◌};
 ghost use Rattle.site.specs.Laws.{site_laws};
 ghost use Rattle.site.specs.Meaning.{applies, combines, caught_as, site_meaning};
 
@@ -7,7 +7,9 @@ use crate::look::Scope;
 use crate::ops::{add, subtract};
 use crate::table::Table;
 use crate::value::SiteValue;
-use host::{Allowed, Applied, Caught, Declaration, Evaluated, Halt, Host, Item, MOST_WHOLE, View};
+use host::{
+    Allowed, Applied, Caught, Declaration, Evaluated, Halt, Host, Item, MOST_WHOLE, View, in_use,
+};
 use rows::VarRow;
 
 /// A host that evaluates the expressions of a table, by code. It is generic in the table, so that it knows nothing of how
@@ -26,13 +28,6 @@ impl<'a> TableHost<&'a [SiteExpr]> {
     {
         TableHost { table }
     }
-}
-
-/// How many variables are in use; a number past the rows counts as all of them.
-fn in_use(vars: &[VarRow<SiteValue>], used: usize) -> usize
-    ensures { result ≡ min used (length vars.now) }
-{
-    used.min(vars.len())
 }
 
 /// The operators that change their left side: 1 is `+=`.

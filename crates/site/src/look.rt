@@ -1,6 +1,6 @@
 ghost use Rattle.std.specs.Prelude.{◌≡◌};
-ghost use Rattle.host.specs.Meaning.{seen};
 ghost use Rattle.site.specs.Expressions.{looked, operand_of, value_of, answer_of};
+ghost use Rattle.site.specs.Scopes.{scope_seen};
 
 use crate::expr::{Operand, SiteExpr};
 use crate::ops::operate;
@@ -20,7 +20,7 @@ pub(crate) struct Scope<'a> {
 impl<'a> Scope<'a> {
     /// The value of the last variable in use whose name has the bytes of this one.
     fn look(self, name: Place) -> Result<SiteValue, Failure>
-        ensures { result ≡ looked (seen self.entry.vars.now self.entry.used self.entry.view) name }
+        ensures { result ≡ looked (scope_seen self.entry) name }
     {
         let texts = self.view.texts;
         let found = search(self.vars, self.used, name.text(texts), texts);
@@ -29,7 +29,7 @@ impl<'a> Scope<'a> {
     }
 
     fn operand(self, operand: Operand) -> Result<SiteValue, Failure>
-        ensures { result ≡ operand_of (seen self.entry.vars.now self.entry.used self.entry.view) operand }
+        ensures { result ≡ operand_of (scope_seen self.entry) operand }
     {
         match operand {
             Operand::Constant(value) => Ok(value),
@@ -39,7 +39,7 @@ impl<'a> Scope<'a> {
 
     /// The value of an expression: both operands are looked up, and then the operator is asked.
     fn value_of(self, expr: SiteExpr) -> Result<SiteValue, Failure>
-        ensures { result ≡ value_of (seen self.entry.vars.now self.entry.used self.entry.view) expr }
+        ensures { result ≡ value_of (scope_seen self.entry) expr }
     {
         match expr {
             SiteExpr::Operand(operand) => self.operand(operand),
@@ -51,7 +51,7 @@ impl<'a> Scope<'a> {
 
     /// The value of the expression that was found under a code, if one was.
     pub(crate) fn answer(self, expr: Option<SiteExpr>) -> Result<SiteValue, Failure>
-        ensures { result ≡ answer_of expr (seen self.entry.vars.now self.entry.used self.entry.view) }
+        ensures { result ≡ answer_of expr (scope_seen self.entry) }
     {
         self.value_of(expr.ok_or(Failure::UnknownCode)?)
     }

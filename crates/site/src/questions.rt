@@ -2,7 +2,7 @@ ghost use Rattle.std.specs.Prelude.{◌≡◌};
 ghost use Rattle.site.specs.Questions.{is_unit, truth_of, number_up_to, item_of};
 
 use crate::value::SiteValue;
-use host::{Item, NoItem};
+use host::{Item, NoItem, number_in, number_up_to};
 
 impl SiteValue {
     pub(crate) fn is_unit(self) -> bool
@@ -25,21 +25,17 @@ impl SiteValue {
         ensures { result ≡ number_up_to most self }
     {
         match self {
-            SiteValue::Number(n) => u32::try_from(n).ok().filter(|n| *n <= most),
+            SiteValue::Number(n) => number_up_to(n, most),
             _ => None,
         }
     }
 
-    /// Item `i` of a range. A number that 64 bits do not hold is past every range's end.
+    /// Item `i` of a range.
     pub(crate) fn item(self, i: u32) -> Item<SiteValue>
         ensures { result ≡ item_of self i }
     {
         match self {
-            SiteValue::Range(from, to) => Ok(
-                from.checked_add(i64::from(i))
-                    .filter(|n| *n < to)
-                    .map(SiteValue::Number),
-            ),
+            SiteValue::Range(from, to) => Ok(number_in(from, to, i).map(SiteValue::Number)),
             _ => Err(NoItem::NotIterable),
         }
     }

@@ -4,5 +4,5 @@ use Rattle.script.proofs.script_host.ScriptHostHost.allow.Goals as goal
 
 pub returns : goal.returns
 returns c =
-    leaves-declared c.args.self.now _ c.args.vars.now c.args.used c.args.view _ _ c.args.declaration c.entry_at-entry.result _ c.entry_at-entry.ensures
+    leaves-declared c.args.self.now _ c.args.vars.now c.args.used c.args.view _ _ c.args.declaration c.next_entry-entry.result _ c.next_entry-entry.ensures.due
     (search rules) c.do_both-used.ensures.used c.do_both-used.ensures.rows c.allow_answer.ensures
