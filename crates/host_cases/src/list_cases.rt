@@ -1,7 +1,8 @@
 //! The list host.
 
+use crate::calls::{print_made, print_read, view};
 use crate::told;
-use host::{Caught, Declaration, Host, View};
+use host::{Caught, Declaration, Host};
 use list::{ListEntry, ListHost, ListValue};
 use rows::{Access, Place, Source, Texts, VarRow};
 
@@ -11,27 +12,25 @@ const PLACE: Place = Place {
     length: 1,
 };
 
-const VALUES: [u32; 10] = [
-    0,
-    1,
-    2,
-    3,
-    4,
-    5,
-    1_000_000_002,
-    1_000_000_003,
-    1_000_000_004,
-    4_294_967_295,
+const TEXTS: Texts<'static> = Texts {
+    rule: b"x",
+    site: b"",
+};
+
+const VALUES: [ListValue; 10] = [
+    ListValue(0),
+    ListValue(1),
+    ListValue(2),
+    ListValue(3),
+    ListValue(4),
+    ListValue(5),
+    ListValue(1_000_000_002),
+    ListValue(1_000_000_003),
+    ListValue(1_000_000_004),
+    ListValue(u32::MAX),
 ];
 
-const WHOLES: [u32; 6] = [
-    0,
-    1,
-    1_000_000_000,
-    4_294_967_292,
-    4_294_967_293,
-    4_294_967_295,
-];
+const WHOLES: [u32; 6] = [0, 1, 1_000_000_000, u32::MAX - 3, u32::MAX - 2, u32::MAX];
 
 const CAUGHT: [Caught; 9] = [
     Caught::NotAllowed(PLACE),
@@ -44,41 +43,6 @@ const CAUGHT: [Caught; 9] = [
     Caught::Resolver(9),
     Caught::Host(10),
 ];
-
-fn view(mark: bool, limit: usize) -> View<'static> {
-    View {
-        texts: Texts {
-            rule: b"x",
-            site: b"",
-        },
-        mark,
-        limit,
-    }
-}
-
-fn print_read(rt: &HostRuntime, host: &ListHost<'_>) -> anyhow::Result<()> {
-    for v in VALUES {
-        let value = ListValue(v);
-        let unit = told::yes_or_no(host.is_unit(value));
-        let truth = told::Reading(host.truth(value));
-        let whole = told::Reading(host.whole(value));
-        let path = told::Reading(host.path(value));
-        println!(rt; "list {v}: unit {unit}, truth {truth}, whole {whole}, path {path}")?;
-    }
-    Ok(())
-}
-
-fn print_made(rt: &HostRuntime, host: &ListHost<'_>) -> anyhow::Result<()> {
-    let made = [
-        ("unit", host.make_unit()),
-        ("false", host.make_truth(false)),
-        ("true", host.make_truth(true)),
-    ];
-    for (name, value) in made {
-        println!(rt; "list {name}: {value}")?;
-    }
-    Ok(())
-}
 
 fn print_wholes(rt: &HostRuntime, host: &ListHost<'_>) -> anyhow::Result<()> {
     for n in WHOLES {
@@ -117,7 +81,7 @@ fn print_evaluated(rt: &HostRuntime, vars: &mut [VarRow<ListValue>]) -> anyhow::
         next: 0,
     };
     for used in [1, 1, 2, 3, 0] {
-        let (names, answer) = host.evaluate(9, vars, used, view(false, 2));
+        let (names, answer) = host.evaluate(9, vars, used, view(TEXTS, false, 2));
         let answer = told::Evaluation(answer);
         let next = host.next;
         println!(rt; "list evaluate: {answer}, names {names}, next {next}")?;
@@ -137,7 +101,7 @@ fn print_allowed(rt: &HostRuntime, vars: &mut [VarRow<ListValue>]) -> anyhow::Re
             level: 0,
             present,
         };
-        let (names, answer) = host.allow(declaration, vars, 1, view(true, 2));
+        let (names, answer) = host.allow(declaration, vars, 1, view(TEXTS, true, 2));
         let answer = told::Permission(answer);
         let next = host.next;
         println!(rt; "list allow, present {present}: {answer}, names {names}, next {next}")?;
@@ -150,8 +114,13 @@ pub fn print_list(rt: &HostRuntime) -> anyhow::Result<()> {
         entries: &[],
         next: 0,
     };
-    print_read(rt, &host)?;
-    print_made(rt, &host)?;
+    let made = [
+        ("unit", host.make_unit()),
+        ("false", host.make_truth(false)),
+        ("true", host.make_truth(true)),
+    ];
+    print_read(rt, "list", &host, &VALUES)?;
+    print_made(rt, "list", &made)?;
     print_wholes(rt, &host)?;
     print_caught(rt, &host)?;
     print_fixed(rt, &host)?;

@@ -1,6 +1,7 @@
 //! Prints what the list host, the scripted host and the resolvers answer to a table of calls, one line each.
 #![tactic(auto)]
 
+mod calls;
 mod list_cases;
 mod resolve_cases;
 mod script_cases;

@@ -1,12 +1,24 @@
 //! Evaluations and declarations of the scripted host.
 
+use crate::calls::view;
 use crate::told;
-use host::{Declaration, Fault, Host, View};
+use host::{Declaration, Fault, Host};
 use image::Position;
 use rows::{Access, Place, Source, Texts, VarRow};
 use script::{
     AllowAnswer, AllowEntry, Effect, Entry, EvalAnswer, EvalEntry, ScriptHost, ScriptValue,
 };
+
+/// An entry that does two effects and answers.
+macro_rules! entry {
+    ($first:expr, $second:expr, $answer:expr) => {
+        Entry {
+            first: $first,
+            second: $second,
+            answer: $answer,
+        }
+    };
+}
 
 const PLACE: Place = Place {
     source: Source::Site,
@@ -14,13 +26,16 @@ const PLACE: Place = Place {
     length: 1,
 };
 
+const TEXTS: Texts<'static> = Texts {
+    rule: b"",
+    site: b"x",
+};
+
 const FAULT: Fault = Fault {
     code: 70,
     at: Position { line: 5, column: 6 },
     catchable: true,
 };
-
-const NOTHING: Option<Effect> = None;
 
 const APPEND_8: Option<Effect> = Some(Effect::Append(PLACE, ScriptValue::Number(8)));
 
@@ -40,145 +55,265 @@ const SIX: ScriptValue = ScriptValue::Number(6);
 
 const LAST: EvalAnswer = EvalAnswer::Row(1);
 
-/// Evaluations: how many rows of four are in use, the limit, two effects and the answer.
-const EVALS: [(
-    &str,
-    usize,
-    usize,
-    Option<Effect>,
-    Option<Effect>,
-    EvalAnswer,
-); 29] = [
-    ("value", 1, 3, NOTHING, NOTHING, EvalAnswer::Value(SIX)),
-    ("fault", 1, 3, NOTHING, NOTHING, EvalAnswer::Fault(FAULT)),
-    ("exit", 1, 3, NOTHING, NOTHING, EvalAnswer::Exit(SIX)),
-    ("code", 1, 3, NOTHING, NOTHING, EvalAnswer::Code),
-    ("mark", 1, 3, NOTHING, NOTHING, EvalAnswer::Mark),
-    ("names", 1, 3, NOTHING, NOTHING, EvalAnswer::Names),
-    (
-        "names past the rows",
-        9,
-        3,
-        NOTHING,
-        NOTHING,
-        EvalAnswer::Names,
-    ),
-    ("last row", 1, 3, NOTHING, NOTHING, LAST),
-    ("row 0", 1, 3, NOTHING, NOTHING, EvalAnswer::Row(0)),
-    ("row 2 of 1", 1, 3, NOTHING, NOTHING, EvalAnswer::Row(2)),
-    ("append", 1, 3, APPEND_8, NOTHING, EvalAnswer::Names),
-    ("append second", 1, 3, NOTHING, APPEND_8, EvalAnswer::Names),
-    ("append twice", 1, 3, APPEND_8, APPEND_9, EvalAnswer::Names),
-    (
-        "append to the limit",
-        2,
-        3,
-        APPEND_8,
-        APPEND_9,
-        EvalAnswer::Names,
-    ),
-    (
-        "append at the limit",
-        3,
-        3,
-        APPEND_8,
-        APPEND_9,
-        EvalAnswer::Names,
-    ),
-    (
-        "append past the limit",
-        3,
-        1,
-        APPEND_8,
-        APPEND_9,
-        EvalAnswer::Names,
-    ),
-    (
-        "append to all rows",
-        3,
-        100,
-        APPEND_8,
-        APPEND_9,
-        EvalAnswer::Names,
-    ),
-    (
-        "append past the rows",
-        9,
-        100,
-        APPEND_8,
-        NOTHING,
-        EvalAnswer::Names,
-    ),
-    (
-        "append and read",
-        1,
-        3,
-        APPEND_8,
-        APPEND_9,
-        EvalAnswer::Row(2),
-    ),
-    ("set a constant", 1, 3, SET_1, NOTHING, LAST),
-    ("set 0", 1, 3, SET_0, NOTHING, LAST),
-    ("set 2 of 1", 1, 3, SET_2, NOTHING, LAST),
-    ("set 2 of 3", 3, 3, SET_2, NOTHING, LAST),
-    ("set 3 of 3", 3, 3, SET_3, NOTHING, EvalAnswer::Row(3)),
-    ("set what was appended", 1, 3, APPEND_8, SET_1, LAST),
-    ("set below what was appended", 1, 3, APPEND_8, SET_2, LAST),
-    ("set and append", 1, 3, SET_1, APPEND_8, LAST),
-    ("set twice", 1, 3, SET_1, SET_AGAIN, LAST),
-    ("set past the rows", 9, 3, SET_1, NOTHING, LAST),
+/// An evaluation, with so many of four rows in use.
+struct EvalCase {
+    name: &'static str,
+    used: usize,
+    limit: usize,
+    entry: EvalEntry,
+}
+
+static EVALS: [EvalCase; 29] = [
+    EvalCase {
+        name: "value",
+        used: 1,
+        limit: 3,
+        entry: entry!(None, None, EvalAnswer::Value(SIX)),
+    },
+    EvalCase {
+        name: "fault",
+        used: 1,
+        limit: 3,
+        entry: entry!(None, None, EvalAnswer::Fault(FAULT)),
+    },
+    EvalCase {
+        name: "exit",
+        used: 1,
+        limit: 3,
+        entry: entry!(None, None, EvalAnswer::Exit(SIX)),
+    },
+    EvalCase {
+        name: "code",
+        used: 1,
+        limit: 3,
+        entry: entry!(None, None, EvalAnswer::Code),
+    },
+    EvalCase {
+        name: "mark",
+        used: 1,
+        limit: 3,
+        entry: entry!(None, None, EvalAnswer::Mark),
+    },
+    EvalCase {
+        name: "names",
+        used: 1,
+        limit: 3,
+        entry: entry!(None, None, EvalAnswer::Names),
+    },
+    EvalCase {
+        name: "names past the rows",
+        used: 9,
+        limit: 3,
+        entry: entry!(None, None, EvalAnswer::Names),
+    },
+    EvalCase {
+        name: "last row",
+        used: 1,
+        limit: 3,
+        entry: entry!(None, None, LAST),
+    },
+    EvalCase {
+        name: "row 0",
+        used: 1,
+        limit: 3,
+        entry: entry!(None, None, EvalAnswer::Row(0)),
+    },
+    EvalCase {
+        name: "row 2 of 1",
+        used: 1,
+        limit: 3,
+        entry: entry!(None, None, EvalAnswer::Row(2)),
+    },
+    EvalCase {
+        name: "append",
+        used: 1,
+        limit: 3,
+        entry: entry!(APPEND_8, None, EvalAnswer::Names),
+    },
+    EvalCase {
+        name: "append second",
+        used: 1,
+        limit: 3,
+        entry: entry!(None, APPEND_8, EvalAnswer::Names),
+    },
+    EvalCase {
+        name: "append twice",
+        used: 1,
+        limit: 3,
+        entry: entry!(APPEND_8, APPEND_9, EvalAnswer::Names),
+    },
+    EvalCase {
+        name: "append to the limit",
+        used: 2,
+        limit: 3,
+        entry: entry!(APPEND_8, APPEND_9, EvalAnswer::Names),
+    },
+    EvalCase {
+        name: "append at the limit",
+        used: 3,
+        limit: 3,
+        entry: entry!(APPEND_8, APPEND_9, EvalAnswer::Names),
+    },
+    EvalCase {
+        name: "append past the limit",
+        used: 3,
+        limit: 1,
+        entry: entry!(APPEND_8, APPEND_9, EvalAnswer::Names),
+    },
+    EvalCase {
+        name: "append to all rows",
+        used: 3,
+        limit: 100,
+        entry: entry!(APPEND_8, APPEND_9, EvalAnswer::Names),
+    },
+    EvalCase {
+        name: "append past the rows",
+        used: 9,
+        limit: 100,
+        entry: entry!(APPEND_8, None, EvalAnswer::Names),
+    },
+    EvalCase {
+        name: "append and read",
+        used: 1,
+        limit: 3,
+        entry: entry!(APPEND_8, APPEND_9, EvalAnswer::Row(2)),
+    },
+    EvalCase {
+        name: "set a constant",
+        used: 1,
+        limit: 3,
+        entry: entry!(SET_1, None, LAST),
+    },
+    EvalCase {
+        name: "set 0",
+        used: 1,
+        limit: 3,
+        entry: entry!(SET_0, None, LAST),
+    },
+    EvalCase {
+        name: "set 2 of 1",
+        used: 1,
+        limit: 3,
+        entry: entry!(SET_2, None, LAST),
+    },
+    EvalCase {
+        name: "set 2 of 3",
+        used: 3,
+        limit: 3,
+        entry: entry!(SET_2, None, LAST),
+    },
+    EvalCase {
+        name: "set 3 of 3",
+        used: 3,
+        limit: 3,
+        entry: entry!(SET_3, None, EvalAnswer::Row(3)),
+    },
+    EvalCase {
+        name: "set what was appended",
+        used: 1,
+        limit: 3,
+        entry: entry!(APPEND_8, SET_1, LAST),
+    },
+    EvalCase {
+        name: "set below what was appended",
+        used: 1,
+        limit: 3,
+        entry: entry!(APPEND_8, SET_2, LAST),
+    },
+    EvalCase {
+        name: "set and append",
+        used: 1,
+        limit: 3,
+        entry: entry!(SET_1, APPEND_8, LAST),
+    },
+    EvalCase {
+        name: "set twice",
+        used: 1,
+        limit: 3,
+        entry: entry!(SET_1, SET_AGAIN, LAST),
+    },
+    EvalCase {
+        name: "set past the rows",
+        used: 9,
+        limit: 3,
+        entry: entry!(SET_1, None, LAST),
+    },
 ];
 
-/// Declarations at level 2, the name present: an effect, the answer, and the access.
-const ALLOWS: [(&str, Option<Effect>, AllowAnswer, Access); 11] = [
-    ("yes", NOTHING, AllowAnswer::Yes, Access::ReadWrite),
-    ("no", NOTHING, AllowAnswer::No, Access::ReadWrite),
-    (
-        "fault",
-        NOTHING,
-        AllowAnswer::Fault(FAULT),
-        Access::ReadWrite,
-    ),
-    ("present", NOTHING, AllowAnswer::Present, Access::ReadWrite),
-    ("constant", NOTHING, AllowAnswer::Constant, Access::Constant),
-    (
-        "constant of another",
-        NOTHING,
-        AllowAnswer::Constant,
-        Access::ReadWrite,
-    ),
-    ("level 2", NOTHING, AllowAnswer::Level(2), Access::ReadWrite),
-    ("level 1", NOTHING, AllowAnswer::Level(1), Access::ReadWrite),
-    ("level 3", NOTHING, AllowAnswer::Level(3), Access::ReadWrite),
-    ("and append", APPEND_8, AllowAnswer::Yes, Access::ReadWrite),
-    ("and set", SET_1, AllowAnswer::No, Access::ReadWrite),
+/// A declaration of this access at level 2, the name present.
+struct AllowCase {
+    name: &'static str,
+    access: Access,
+    entry: AllowEntry,
+}
+
+static ALLOWS: [AllowCase; 11] = [
+    AllowCase {
+        name: "yes",
+        access: Access::ReadWrite,
+        entry: entry!(None, None, AllowAnswer::Yes),
+    },
+    AllowCase {
+        name: "no",
+        access: Access::ReadWrite,
+        entry: entry!(None, None, AllowAnswer::No),
+    },
+    AllowCase {
+        name: "fault",
+        access: Access::ReadWrite,
+        entry: entry!(None, None, AllowAnswer::Fault(FAULT)),
+    },
+    AllowCase {
+        name: "present",
+        access: Access::ReadWrite,
+        entry: entry!(None, None, AllowAnswer::Present),
+    },
+    AllowCase {
+        name: "constant",
+        access: Access::Constant,
+        entry: entry!(None, None, AllowAnswer::Constant),
+    },
+    AllowCase {
+        name: "constant of another",
+        access: Access::ReadWrite,
+        entry: entry!(None, None, AllowAnswer::Constant),
+    },
+    AllowCase {
+        name: "level 2",
+        access: Access::ReadWrite,
+        entry: entry!(None, None, AllowAnswer::Level(2)),
+    },
+    AllowCase {
+        name: "level 1",
+        access: Access::ReadWrite,
+        entry: entry!(None, None, AllowAnswer::Level(1)),
+    },
+    AllowCase {
+        name: "level 3",
+        access: Access::ReadWrite,
+        entry: entry!(None, None, AllowAnswer::Level(3)),
+    },
+    AllowCase {
+        name: "and append",
+        access: Access::ReadWrite,
+        entry: entry!(APPEND_8, None, AllowAnswer::Yes),
+    },
+    AllowCase {
+        name: "and set",
+        access: Access::ReadWrite,
+        entry: entry!(SET_1, None, AllowAnswer::No),
+    },
 ];
 
 /// A list of two entries for evaluations, and one for declarations.
 const TWO_EVALS: [EvalEntry; 2] = [
-    Entry {
-        first: NOTHING,
-        second: NOTHING,
-        answer: EvalAnswer::Value(ScriptValue::Number(9)),
-    },
-    Entry {
-        first: NOTHING,
-        second: NOTHING,
-        answer: EvalAnswer::Code,
-    },
+    entry!(None, None, EvalAnswer::Value(ScriptValue::Number(9))),
+    entry!(None, None, EvalAnswer::Code),
 ];
 
 const TWO_ALLOWS: [AllowEntry; 2] = [
-    Entry {
-        first: NOTHING,
-        second: NOTHING,
-        answer: AllowAnswer::Yes,
-    },
-    Entry {
-        first: NOTHING,
-        second: NOTHING,
-        answer: AllowAnswer::Present,
-    },
+    entry!(None, None, AllowAnswer::Yes),
+    entry!(None, None, AllowAnswer::Present),
 ];
 
 /// Four rows: a constant of value 7, and three of value unit.
@@ -186,17 +321,6 @@ fn four_rows() -> [VarRow<ScriptValue>; 4] {
     let unit = VarRow::new(PLACE, Access::ReadWrite, ScriptValue::Unit);
     let seven = VarRow::new(PLACE, Access::Constant, ScriptValue::Number(7));
     [seven, unit, unit, unit]
-}
-
-fn view(mark: bool, limit: usize) -> View<'static> {
-    View {
-        texts: Texts {
-            rule: b"",
-            site: b"x",
-        },
-        mark,
-        limit,
-    }
 }
 
 /// The values of rows, those of constants with a mark.
@@ -213,15 +337,9 @@ fn print_rows(rt: &HostRuntime, rows: &[VarRow<ScriptValue>]) -> anyhow::Result<
     Ok(())
 }
 
-/// One evaluation of code 77 under the mark, with so many of four rows in use.
-fn show(
-    rt: &HostRuntime,
-    name: &str,
-    used: usize,
-    limit: usize,
-    entry: EvalEntry,
-) -> anyhow::Result<()> {
-    let evals = [entry];
+/// One evaluation of code 77 under the mark.
+fn evaluate(rt: &HostRuntime, case: &EvalCase) -> anyhow::Result<()> {
+    let evals = [case.entry];
     let mut host = ScriptHost {
         evals: &evals,
         allows: &[],
@@ -229,25 +347,15 @@ fn show(
         declarations: 0,
     };
     let mut vars = four_rows();
-    let (names, answer) = host.evaluate(77, &mut vars, used, view(true, limit));
+    let (names, answer) = host.evaluate(77, &mut vars, case.used, view(TEXTS, true, case.limit));
     let answer = told::Evaluation(answer);
-    print!(rt; "script {name}: {answer}, names {names}, rows")?;
+    print!(rt; "script {}: {answer}, names {names}, rows", case.name)?;
     print_rows(rt, &vars)
 }
 
 fn print_evals(rt: &HostRuntime) -> anyhow::Result<()> {
-    for (name, used, limit, first, second, answer) in EVALS {
-        show(
-            rt,
-            name,
-            used,
-            limit,
-            Entry {
-                first,
-                second,
-                answer,
-            },
-        )?;
+    for case in &EVALS {
+        evaluate(rt, case)?;
     }
     Ok(())
 }
@@ -266,7 +374,7 @@ fn print_turns(
         declarations: 0,
     };
     for code in 0..3 {
-        let (_, answer) = host.evaluate(code, vars, 1, view(false, 4));
+        let (_, answer) = host.evaluate(code, vars, 1, view(TEXTS, false, 4));
         let answer = told::Evaluation(answer);
         let count = host.evaluations;
         let other = host.declarations;
@@ -276,18 +384,8 @@ fn print_turns(
 }
 
 /// One declaration, with one of four rows in use.
-fn declare(
-    rt: &HostRuntime,
-    name: &str,
-    first: Option<Effect>,
-    answer: AllowAnswer,
-    access: Access,
-) -> anyhow::Result<()> {
-    let allows = [Entry {
-        first,
-        second: None,
-        answer,
-    }];
+fn declare(rt: &HostRuntime, case: &AllowCase) -> anyhow::Result<()> {
+    let allows = [case.entry];
     let mut host = ScriptHost {
         evals: &[],
         allows: &allows,
@@ -296,20 +394,20 @@ fn declare(
     };
     let declaration = Declaration {
         name: PLACE,
-        access,
+        access: case.access,
         level: 2,
         present: true,
     };
     let mut vars = four_rows();
-    let (names, answer) = host.allow(declaration, &mut vars, 1, view(true, 3));
+    let (names, answer) = host.allow(declaration, &mut vars, 1, view(TEXTS, true, 3));
     let answer = told::Permission(answer);
-    print!(rt; "script allow {name}: {answer}, names {names}, rows")?;
+    print!(rt; "script allow {}: {answer}, names {names}, rows", case.name)?;
     print_rows(rt, &vars)
 }
 
 fn print_allowed(rt: &HostRuntime) -> anyhow::Result<()> {
-    for (name, first, answer, access) in ALLOWS {
-        declare(rt, name, first, answer, access)?;
+    for case in &ALLOWS {
+        declare(rt, case)?;
     }
     Ok(())
 }
@@ -333,7 +431,7 @@ fn print_declared(
         present: false,
     };
     for _ in 0..3 {
-        let (_, answer) = host.allow(declaration, vars, 1, view(false, 4));
+        let (_, answer) = host.allow(declaration, vars, 1, view(TEXTS, false, 4));
         let answer = told::Permission(answer);
         let count = host.evaluations;
         let other = host.declarations;

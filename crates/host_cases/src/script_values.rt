@@ -1,5 +1,6 @@
 //! The calls of the scripted host that change nothing.
 
+use crate::calls::{print_made, print_read};
 use crate::told;
 use host::{Caught, Host};
 use script::ScriptValue::{Number, Range, Seq, Truth, Unit};
@@ -51,30 +52,6 @@ const ITEMS: [(ScriptValue, u32); 29] = [
     (Seq(65535), 9),
 ];
 
-fn print_read(rt: &HostRuntime, host: &ScriptHost<'_>) -> anyhow::Result<()> {
-    for value in VALUES {
-        let unit = told::yes_or_no(host.is_unit(value));
-        let truth = told::Reading(host.truth(value));
-        let whole = told::Reading(host.whole(value));
-        let path = told::Reading(host.path(value));
-        println!(rt; "script {value}: unit {unit}, truth {truth}, whole {whole}, path {path}")?;
-    }
-    Ok(())
-}
-
-fn print_made(rt: &HostRuntime, host: &ScriptHost<'_>) -> anyhow::Result<()> {
-    let made = [
-        ("unit", host.make_unit()),
-        ("true", host.make_truth(true)),
-        ("whole", host.make_whole(u32::MAX)),
-        ("caught", host.caught(Caught::Host(9))),
-    ];
-    for (name, value) in made {
-        println!(rt; "script {name}: {value}")?;
-    }
-    Ok(())
-}
-
 fn print_operators(rt: &HostRuntime, host: &ScriptHost<'_>) -> anyhow::Result<()> {
     for op in 0..11 {
         let applied = told::Application(host.apply(op, Number(1), Number(2)));
@@ -99,8 +76,14 @@ pub fn print_values(rt: &HostRuntime) -> anyhow::Result<()> {
         evaluations: 0,
         declarations: 0,
     };
-    print_read(rt, &host)?;
-    print_made(rt, &host)?;
+    let made = [
+        ("unit", host.make_unit()),
+        ("true", host.make_truth(true)),
+        ("whole", host.make_whole(u32::MAX)),
+        ("caught", host.caught(Caught::Host(9))),
+    ];
+    print_read(rt, "script", &host, &VALUES)?;
+    print_made(rt, "script", &made)?;
     print_operators(rt, &host)?;
     print_items(rt, &host)
 }

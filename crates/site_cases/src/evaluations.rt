@@ -89,7 +89,7 @@ fn variables() -> [VarRow<SiteValue>; 6] {
     [
         VarRow::new(A_IN_RULE, Access::ReadWrite, SiteValue::Number(1)),
         VarRow::new(B_IN_RULE, Access::ReadWrite, SiteValue::Truth(true)),
-        VarRow::new(C_IN_SITE, Access::ReadWrite, SiteValue::Number(MAX)),
+        VarRow::new(C_IN_SITE, Access::ReadWrite, SiteValue::Number(i64::MAX)),
         VarRow::new(A_IN_SITE, Access::ReadWrite, SiteValue::Number(7)),
         VarRow::new(PAST_SITE, Access::ReadWrite, SiteValue::Range(1, 4)),
         VarRow::new(B_IN_SITE, Access::Constant, SiteValue::Number(-3)),
@@ -162,7 +162,7 @@ fn print_code(rt: &HostRuntime, code: u16) -> anyhow::Result<()> {
 pub fn print_codes(rt: &HostRuntime) -> anyhow::Result<()> {
     print_code(rt, 1)?;
     print_code(rt, 2)?;
-    print_code(rt, 65535)?;
+    print_code(rt, u16::MAX)?;
     let (_, answer) = evaluate(&[], 0, 6);
     println!(rt; "code 0 of 0: {}", Answer::from(answer))?;
     Ok(())

@@ -3,9 +3,16 @@
 use rows::{Place, Source};
 use site::{Operand, SiteValue};
 
-pub const MIN: i64 = -9_223_372_036_854_775_808;
-
-pub const MAX: i64 = 9_223_372_036_854_775_807;
+/// A place in one of the two texts, by its offset and its length.
+macro_rules! place {
+    ($source:ident, $offset:expr, $length:expr) => {
+        Place {
+            source: Source::$source,
+            offset: $offset,
+            length: $length,
+        }
+    };
+}
 
 pub const UNIT: Operand = Operand::Constant(SiteValue::Unit);
 
@@ -13,9 +20,9 @@ pub const YES: Operand = Operand::Constant(SiteValue::Truth(true));
 
 pub const NO: Operand = Operand::Constant(SiteValue::Truth(false));
 
-pub const LOW: Operand = Operand::Constant(SiteValue::Number(MIN));
+pub const LOW: Operand = Operand::Constant(SiteValue::Number(i64::MIN));
 
-pub const HIGH: Operand = Operand::Constant(SiteValue::Number(MAX));
+pub const HIGH: Operand = Operand::Constant(SiteValue::Number(i64::MAX));
 
 pub const MINUS_ONE: Operand = Operand::Constant(SiteValue::Number(-1));
 
@@ -25,7 +32,7 @@ pub const ONE: Operand = Operand::Constant(SiteValue::Number(1));
 
 pub const TWO: Operand = Operand::Constant(SiteValue::Number(2));
 
-pub const ALL: Operand = Operand::Constant(SiteValue::Range(MIN, MAX));
+pub const ALL: Operand = Operand::Constant(SiteValue::Range(i64::MIN, i64::MAX));
 
 pub const THREE_FROM_0: Operand = Operand::Constant(SiteValue::Range(0, 3));
 
@@ -46,85 +53,37 @@ pub const A: Operand = Operand::Variable(A_IN_RULE);
 
 pub const SITE_A: Operand = Operand::Variable(A_IN_SITE);
 
-pub const A_IN_RULE: Place = Place {
-    source: Source::Rule,
-    offset: 0,
-    length: 1,
-};
+pub const A_IN_RULE: Place = place!(Rule, 0, 1);
 
-pub const A_IN_SITE: Place = Place {
-    source: Source::Site,
-    offset: 2,
-    length: 1,
-};
+pub const A_IN_SITE: Place = place!(Site, 2, 1);
 
 /// The name `b`, in either text.
 pub const B: Operand = Operand::Variable(B_IN_RULE);
 
 pub const SITE_B: Operand = Operand::Variable(B_IN_SITE);
 
-pub const B_IN_RULE: Place = Place {
-    source: Source::Rule,
-    offset: 1,
-    length: 1,
-};
+pub const B_IN_RULE: Place = place!(Rule, 1, 1);
 
-pub const B_IN_SITE: Place = Place {
-    source: Source::Site,
-    offset: 0,
-    length: 1,
-};
+pub const B_IN_SITE: Place = place!(Site, 0, 1);
 
 /// The name `c`.
 pub const C: Operand = Operand::Variable(C_IN_SITE);
 
-pub const C_IN_SITE: Place = Place {
-    source: Source::Site,
-    offset: 1,
-    length: 1,
-};
+pub const C_IN_SITE: Place = place!(Site, 1, 1);
 
 /// The name `x`, which no variable has.
-pub const X: Operand = Operand::Variable(Place {
-    source: Source::Rule,
-    offset: 2,
-    length: 1,
-});
+pub const X: Operand = Operand::Variable(place!(Rule, 2, 1));
 
 /// The name `ab`, which no variable has.
-pub const AB: Operand = Operand::Variable(Place {
-    source: Source::Rule,
-    offset: 0,
-    length: 2,
-});
+pub const AB: Operand = Operand::Variable(place!(Rule, 0, 2));
 
 /// Places that read as empty: one that does not fit, no name, one at the text's end, and one far past it.
-pub const PAST_RULE: Operand = Operand::Variable(Place {
-    source: Source::Rule,
-    offset: 3,
-    length: 1,
-});
+pub const PAST_RULE: Operand = Operand::Variable(place!(Rule, 3, 1));
 
-pub const NO_NAME: Operand = Operand::Variable(Place {
-    source: Source::Rule,
-    offset: 0,
-    length: 0,
-});
+pub const NO_NAME: Operand = Operand::Variable(place!(Rule, 0, 0));
 
-pub const SITE_END: Operand = Operand::Variable(Place {
-    source: Source::Site,
-    offset: 3,
-    length: 0,
-});
+pub const SITE_END: Operand = Operand::Variable(place!(Site, 3, 0));
 
-pub const FAR: Operand = Operand::Variable(Place {
-    source: Source::Site,
-    offset: 4_294_967_295,
-    length: 4_294_967_295,
-});
+pub const FAR: Operand = Operand::Variable(place!(Site, u32::MAX, u32::MAX));
 
-pub const PAST_SITE: Place = Place {
-    source: Source::Site,
-    offset: 3,
-    length: 1,
-};
+pub const PAST_SITE: Place = place!(Site, 3, 1);

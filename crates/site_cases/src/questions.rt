@@ -13,31 +13,28 @@ const ITEMS: [(SiteValue, u32); 22] = [
     (SiteValue::Range(-2, 1), 1),
     (SiteValue::Range(-2, 1), 2),
     (SiteValue::Range(-2, 1), 3),
-    (SiteValue::Range(MIN, MAX), 0),
-    (SiteValue::Range(MIN, MAX), 4_294_967_295),
-    (SiteValue::Range(9_223_372_036_854_775_806, MAX), 0),
-    (SiteValue::Range(9_223_372_036_854_775_806, MAX), 1),
-    (SiteValue::Range(9_223_372_036_854_775_806, MAX), 2),
+    (SiteValue::Range(i64::MIN, i64::MAX), 0),
+    (SiteValue::Range(i64::MIN, i64::MAX), u32::MAX),
+    (SiteValue::Range(i64::MAX - 1, i64::MAX), 0),
+    (SiteValue::Range(i64::MAX - 1, i64::MAX), 1),
+    (SiteValue::Range(i64::MAX - 1, i64::MAX), 2),
+    (SiteValue::Range(i64::MAX - 1, i64::MAX), u32::MAX),
+    (SiteValue::Range(i64::MAX, i64::MAX), 0),
+    (SiteValue::Range(i64::MAX, i64::MIN), 0),
+    (SiteValue::Range(i64::MIN, i64::MIN), 0),
     (
-        SiteValue::Range(9_223_372_036_854_775_806, MAX),
-        4_294_967_295,
-    ),
-    (SiteValue::Range(MAX, MAX), 0),
-    (SiteValue::Range(MAX, MIN), 0),
-    (SiteValue::Range(MIN, MIN), 0),
-    (
-        SiteValue::Range(9_223_372_032_559_808_512, MAX),
-        4_294_967_294,
+        SiteValue::Range(i64::MAX - u32::MAX as i64, i64::MAX),
+        u32::MAX - 1,
     ),
     (
-        SiteValue::Range(9_223_372_032_559_808_512, MAX),
-        4_294_967_295,
+        SiteValue::Range(i64::MAX - u32::MAX as i64, i64::MAX),
+        u32::MAX,
     ),
     (SiteValue::Range(5, 5), 0),
     (SiteValue::Range(5, 3), 0),
     (SiteValue::Unit, 0),
     (SiteValue::Truth(true), 1),
-    (SiteValue::Number(3), 4_294_967_295),
+    (SiteValue::Number(3), u32::MAX),
 ];
 
 const VALUES: [SiteValue; 13] = [
@@ -48,11 +45,11 @@ const VALUES: [SiteValue; 13] = [
     SiteValue::Number(-1),
     SiteValue::Number(1_000_000_000),
     SiteValue::Number(1_000_000_001),
-    SiteValue::Number(4_294_967_295),
-    SiteValue::Number(4_294_967_296),
-    SiteValue::Number(4_294_967_297),
-    SiteValue::Number(MIN),
-    SiteValue::Number(MAX),
+    SiteValue::Number(u32::MAX as i64),
+    SiteValue::Number(u32::MAX as i64 + 1),
+    SiteValue::Number(u32::MAX as i64 + 2),
+    SiteValue::Number(i64::MIN),
+    SiteValue::Number(i64::MAX),
     SiteValue::Range(0, 1),
 ];
 
@@ -61,10 +58,10 @@ const APPLICATIONS: [(u16, SiteValue, SiteValue); 14] = [
     (1, SiteValue::Number(1), SiteValue::Number(2)),
     (2, SiteValue::Number(1), SiteValue::Number(2)),
     (3, SiteValue::Number(1), SiteValue::Number(2)),
-    (65535, SiteValue::Number(1), SiteValue::Number(2)),
-    (1, SiteValue::Number(MAX), SiteValue::Number(1)),
-    (1, SiteValue::Number(MIN), SiteValue::Number(-1)),
-    (2, SiteValue::Number(MIN), SiteValue::Number(1)),
+    (u16::MAX, SiteValue::Number(1), SiteValue::Number(2)),
+    (1, SiteValue::Number(i64::MAX), SiteValue::Number(1)),
+    (1, SiteValue::Number(i64::MIN), SiteValue::Number(-1)),
+    (2, SiteValue::Number(i64::MIN), SiteValue::Number(1)),
     (1, SiteValue::Unit, SiteValue::Number(1)),
     (1, SiteValue::Number(1), SiteValue::Truth(true)),
     (1, SiteValue::Range(0, 3), SiteValue::Range(0, 3)),
@@ -155,7 +152,7 @@ pub fn print_made(rt: &HostRuntime) -> anyhow::Result<()> {
     print_answer(rt, "made false", host.make_truth(false))?;
     print_answer(rt, "made 0", host.make_whole(0))?;
     print_answer(rt, "made 1000000000", host.make_whole(1_000_000_000))?;
-    print_answer(rt, "made 4294967295", host.make_whole(4_294_967_295))
+    print_answer(rt, "made 4294967295", host.make_whole(u32::MAX))
 }
 
 /// A name that is about to be declared, with more variables in use than there are.

@@ -49,8 +49,8 @@ impl Described {
         Ok(())
     }
 
-    pub fn add_module(&mut self, path: u32, answer: Resolved) -> anyhow::Result<()> {
-        self.modules.push(PathRow { path, answer })?;
+    pub fn add_module(&mut self, row: PathRow) -> anyhow::Result<()> {
+        self.modules.push(row)?;
         Ok(())
     }
 
@@ -62,15 +62,15 @@ impl Described {
         }
     }
 
-    /// What an expression as written stands for; none where it names operands that there are not.
-    fn compiled(&mut self, expression: Expression<'_>) -> anyhow::Result<Option<SiteExpr>> {
+    /// What an expression as written stands for, with its name put behind the rule's text; none where it names operands that there are not.
+    fn compile(&mut self, expression: Expression<'_>) -> anyhow::Result<Option<SiteExpr>> {
         Ok(match expression {
             Expression::Value(value) => Some(SiteExpr::Operand(Operand::Constant(value))),
             Expression::Variable(name) => {
                 let place = put_name(&mut self.rule, Source::Rule, name)?;
                 Some(SiteExpr::Operand(Operand::Variable(place)))
             }
-            Expression::Two(left, operator, right) => self
+            Expression::Binary(left, operator, right) => self
                 .operand(left)
                 .zip(self.operand(right))
                 .map(|(left, right)| SiteExpr::Binary(operator, left, right)),
@@ -79,7 +79,7 @@ impl Described {
 
     /// Adds an expression, and answers its code.
     pub fn add_expression(&mut self, expression: Expression<'_>) -> anyhow::Result<Option<usize>> {
-        let Some(compiled) = self.compiled(expression)? else {
+        let Some(compiled) = self.compile(expression)? else {
             return Ok(None);
         };
         let code = self.expressions.len();

@@ -2,7 +2,7 @@
 
 use host::Fault;
 use image::Position;
-use resolve::Resolved;
+use resolve::{PathRow, Resolved};
 use rows::Access;
 use site::{Operator, SiteValue};
 
@@ -11,7 +11,7 @@ use site::{Operator, SiteValue};
 pub enum Expression<'a> {
     Value(SiteValue),
     Variable(&'a str),
-    Two(usize, Operator, usize),
+    Binary(usize, Operator, usize),
 }
 
 /// A line that reads well.
@@ -19,7 +19,7 @@ pub enum Expression<'a> {
 pub enum Line<'a> {
     Name(&'a str, Access, SiteValue),
     Expression(Expression<'a>),
-    Module(u32, Resolved),
+    Module(PathRow),
     Evaluate(u16),
     Resolve(u32),
 }
@@ -51,7 +51,7 @@ fn read_operator(word: &str) -> Option<Operator> {
 }
 
 /// The fault of a broken path: the description has no position for it, and a rule may catch it.
-fn fault(code: u16) -> Resolved {
+fn broken(code: u16) -> Resolved {
     Err(Fault {
         code,
         at: Position::NONE,
@@ -66,12 +66,17 @@ fn read_operand<'a>(word: &'a str) -> Option<Expression<'a>> {
     }
 }
 
-fn read_two<'a>(left: &str, operator: &str, right: &str) -> Option<Expression<'a>> {
-    Some(Expression::Two(
+fn read_binary<'a>(left: &str, operator: &str, right: &str) -> Option<Expression<'a>> {
+    Some(Expression::Binary(
         left.parse::<usize>().ok()?,
         read_operator(operator)?,
         right.parse::<usize>().ok()?,
     ))
+}
+
+fn read_module<'a>(path: &str, answer: Resolved) -> Option<Line<'a>> {
+    let path = path.parse::<u32>().ok()?;
+    Some(Line::Module(PathRow { path, answer }))
 }
 
 /// The line of these words; none where they make none.
@@ -89,17 +94,15 @@ pub fn read_line<'a>(words: &[&'a str]) -> Option<Line<'a>> {
         )),
         ["expression", word] => Some(Line::Expression(read_operand(word)?)),
         ["expression", left, operator, right] => {
-            Some(Line::Expression(read_two(left, operator, right)?))
+            Some(Line::Expression(read_binary(left, operator, right)?))
         }
-        ["module", path, "=", "none"] => { Some(Line::Module(path.parse::<u32>().ok()?, Ok(None))) }
-        ["module", path, "=", module] => Some(Line::Module(
-            path.parse::<u32>().ok()?,
-            Ok(Some(module.parse::<u32>().ok()?)),
-        )),
-        ["module", path, "=", "fault", code] => Some(Line::Module(
-            path.parse::<u32>().ok()?,
-            fault(code.parse::<u16>().ok()?),
-        )),
+        ["module", path, "=", "none"] => read_module(path, Ok(None)),
+        ["module", path, "=", module] => {
+            read_module(path, Ok(Some(module.parse::<u32>().ok()?)))
+        }
+        ["module", path, "=", "fault", code] => {
+            read_module(path, broken(code.parse::<u16>().ok()?))
+        }
         ["evaluate", code] => Some(Line::Evaluate(code.parse::<u16>().ok()?)),
         ["resolve", path] => Some(Line::Resolve(path.parse::<u32>().ok()?)),
         _ => None,

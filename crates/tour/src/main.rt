@@ -36,9 +36,9 @@ fn follow<'a>(site: &mut Described, line: Line<'a>) -> anyhow::Result<Option<Tol
             site.add_expression(expression)?
                 .map(|code| Told::Expression(code, expression)),
         ),
-        Line::Module(path, answer) => {
-            site.add_module(path, answer)?;
-            Ok(Some(Told::Module(path, answer)))
+        Line::Module(row) => {
+            site.add_module(row)?;
+            Ok(Some(Told::Module(row)))
         }
         Line::Evaluate(code) => Ok(Some(Told::Evaluated(code, site.evaluate(code)))),
         Line::Resolve(path) => Ok(Some(Told::Resolved(path, site.resolve(path)))),

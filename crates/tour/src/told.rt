@@ -2,7 +2,7 @@
 
 use crate::line::Expression;
 use host::{Evaluated, Halt};
-use resolve::Resolved;
+use resolve::{PathRow, Resolved};
 use rows::Access;
 use site::SiteValue;
 use std::fmt;
@@ -12,7 +12,7 @@ use std::fmt;
 pub enum Told<'a> {
     Name(&'a str, Access, SiteValue),
     Expression(usize, Expression<'a>),
-    Module(u32, Resolved),
+    Module(PathRow),
     Evaluated(u16, Evaluated<SiteValue>),
     Resolved(u32, Resolved),
 }
@@ -22,7 +22,7 @@ impl<'a> fmt::Display for Expression<'a> {
         match self {
             Expression::Value(value) => write!(f, "the value {value}"),
             Expression::Variable(name) => write!(f, "the variable {name}"),
-            Expression::Two(left, operator, right) => {
+            Expression::Binary(left, operator, right) => {
                 write!(f, "code {left} {operator} code {right}")
             }
         }
@@ -55,7 +55,7 @@ impl<'a> fmt::Display for Told<'a> {
         match *self {
             Told::Name(name, access, value) => write!(f, "{} {name} = {value}", word(access)),
             Told::Expression(code, expression) => write!(f, "code {code}: {expression}"),
-            Told::Module(path, answer) => write!(f, "path {path}: {}", Found(answer)),
+            Told::Module(PathRow { path, answer }) => write!(f, "path {path}: {}", Found(answer)),
             Told::Evaluated(code, answer) => {
                 write!(f, "evaluate {code}: ")?;
                 match answer {
