@@ -1,5 +1,6 @@
 -- the one walk over the kinds of statements: their loops are lively, and they count no more than their quotes
 use Rattle.std.proofs.Common.{◌≡◌, ℕ, zero, suc, ◌+◌, ◌<◌, ◌≤◌, Bool, true, false, cond, not, eqb, List, [], ◌∷◌, Some, None, Ok, Err, Option, sym, refl, ap, ◌∙◌, subst, add-zero, arith}
+use Rattle.std.proofs.lemmas.Bool.{true≢false}
 use Rattle.image.specs.declared.rows.ExprKind.{ExprKind}
 use Rattle.image.specs.declared.rows.ExprKind.TheVariants.{Host as HostCode, Unit as UnitExpr, False, True}
 use Rattle.image.specs.declared.rows.Name.{Name}
@@ -40,10 +41,6 @@ plus_zero (Some a) = ap (λ n. Some n) (add-zero a)
 zero_plus : (a : Option ℕ) → plus (Some 0) a ≡ a
 zero_plus None = refl
 zero_plus (Some a) = let e : 0 + a ≡ a = omega arith in ap (λ n. Some n) e
-
-plus_none : (a : Option ℕ) → plus a None ≡ None
-plus_none None = refl
-plus_none (Some a) = refl
 
 module _ {S V : Type 0} (m : HostMeaning S V) (w : Setting) where
   -- a bound on what a tree counts, if there is one
@@ -282,10 +279,6 @@ module _ {S V : Type 0} (m : HostMeaning S V) (w : Setting) where
       goes-body true at p e = (Some 1, goes_bind _ _ (Some 1) (Some 0) (goes-pays at) (λ _. goes-give m.unit))
       goes-body false at p e = (q p, goes_sub (run m resolver s stmts empty p) (q p) (good_run p))
 
-      first_run : (p : Option ℕ) → (b : Bool) → empty p ≡ b → b ≡ false → First (cond b (done (value m.unit)) (inner (stmts p)))
-      first_run p true e z = absurd (let c : ◌≡◌ {A = ℕ} 0 1 = cc z in omega arith)
-      first_run p false e z = hf p e
-
       -- a body that is not empty begins with a charge
       body-first : (b : Bool) (at : Position) (p : Option ℕ) → empty p ≡ b → First (alone (body m resolver s stmts empty b at p))
       body-first true at p e = tt
@@ -468,13 +461,13 @@ module _ {S V : Type 0} (m : HostMeaning S V) (w : Setting) where
     row-stmt (Some x) = refl
 
     first-order : (stmts : Option ℕ → Tree V) (empty : Option ℕ → Bool) (v : V) (j n : ℕ) → eqb n 0 ≡ false → First (in_order m resolver s stmts empty v j n)
-    first-order stmts empty v j zero e = absurd (let z : ◌≡◌ {A = ℕ} 0 1 = cc e in omega arith)
+    first-order stmts empty v j zero e = absurd (true≢false e)
     first-order stmts empty v j (suc n) e = tt
 
     -- a block that is not empty begins with a charge
     level-first : (d : ℕ) (p : Option ℕ) → empty_at m resolver s d p ≡ false → First (levels m resolver s d p)
-    level-first zero p e = absurd (let z : ◌≡◌ {A = ℕ} 0 1 = cc e in omega arith)
-    level-first (suc d) None e = absurd (let z : ◌≡◌ {A = ℕ} 0 1 = cc e in omega arith)
+    level-first zero p e = absurd (true≢false e)
+    level-first (suc d) None e = absurd (true≢false e)
     level-first (suc d) (Some b) e = first-order (levels m resolver s d) (empty_at m resolver s d) m.unit (block s b).first (block s b).count e
 
     pub good_level : (d : ℕ) (p : Option ℕ) → Good (levels m resolver s d p) (named (Some 0) (block_quote s d) p)

@@ -1,6 +1,6 @@
 -- a larger limit of operations changes nothing until the smaller one stops a run
-use Rattle.std.proofs.Common.{◌≡◌, ℕ, zero, suc, ◌≤◌, Bool, true, false, ltb, ◌⊎◌, List, [], ◌∷◌, refl, ap, ◌∙◌, inl, inr, arith}
-use Rattle.std.proofs.lemmas.Bool.{ltb-true, lt-ltb}
+use Rattle.std.proofs.Common.{◌≡◌, ℕ, zero, suc, ◌≤◌, Bool, true, false, ltb, ◌⊎◌, List, [], ◌∷◌, refl, ap, ◌∙◌, subst, inl, inr, arith}
+use Rattle.std.proofs.lemmas.Bool.{false≢true, ltb-true, lt-ltb}
 use Rattle.image.specs.declared.rows.Position.{Position}
 use Rattle.rows.specs.declared.variable.VarRow.{VarRow}
 use Rattle.host.specs.Meaning.{HostMeaning}
@@ -13,16 +13,20 @@ module _ {S V : Type 0} (m : HostMeaning S V) (w : Setting) (low high many : ℕ
   unfoldable pub Same : Done S V (End V) → Done S V (End V) → Type 0
   Same d e = (cut d.out ≡ true) ⊎ (d ≡ e)
 
-  noted : (log : List Event) (d e : Done S V (End V)) → Same d e → Same (noting m w log d) (noting m w log e)
+  -- what leaves it as it is whether a run was stopped
+  within : (F : Done S V (End V) → Done S V (End V)) → ((x : Done S V (End V)) → cut (F x).out ≡ cut x.out) → (d e : Done S V (End V)) → Same d e → Same (F d) (F e)
   unfolding Same
-  noted log d e (inl stop) = inl stop
-  noted log d e (inr same) = inr (ap (λ (x : Done S V (End V)). noting m w log x) same)
+  within F h d e (inl stop) = inl (h d ∙ stop)
+  within F h d e (inr same) = inr (ap F same)
+
+  noted : (log : List Event) (d e : Done S V (End V)) → Same d e → Same (noting m w log d) (noting m w log e)
+  noted log d e = within (noting m w log) (λ x. refl) d e
 
   paying : (b c : Bool) (p : Position) (s : State S V) (f g : State S V → Done S V (End V)) → (b ≡ true → c ≡ true) →
       ((q : State S V) → Same (f q) (g q)) → Same (pay m w b p s f) (pay m w c p s g)
   unfolding Same
   paying true true p s f g h k = k (charged m w s)
-  paying true false p s f g h k = absurd (let z : ◌≡◌ {A = ℕ} 0 1 = cc (h refl) in omega arith)
+  paying true false p s f g h k = absurd (false≢true (h refl))
   paying false c p s f g h k = inl refl
 
   charges : (p : Position) (s : State S V) (f g : State S V → Done S V (End V)) → ((q : State S V) → Same (f q) (g q)) → Same (paid m w low many p s f) (paid m w high many p s g)
@@ -37,18 +41,14 @@ module _ {S V : Type 0} (m : HostMeaning S V) (w : Setting) (low high many : ℕ
 
   stays : (e : End V) (r : State S V) (l : List Event) (f : Out V → State S V → Done S V (End V)) → cut e ≡ true → cut (go_on m w e r l f).out ≡ true
   stays (stopped p) r l f h = refl
-  stays (ended o) r l f h = absurd (let z : ◌≡◌ {A = ℕ} 0 1 = cc h in omega arith)
+  stays (ended o) r l f h = absurd (false≢true h)
 
   sequel : (d e : Done S V (End V)) (f g : Out V → State S V → Done S V (End V)) → Same d e → ((o : Out V) (q : State S V) → Same (f o q) (g o q)) →
       Same (go_on m w d.out d.state d.log f) (go_on m w e.out e.state e.log g)
   unfolding Same
   sequel d e f g (inl stop) h = inl (stays d.out d.state d.log f stop)
   sequel d e f g (inr same) h =
-      Same_along (going d.out d.state d.log f g h) (ap (λ (x : Done S V (End V)). go_on m w x.out x.state x.log g) same)
-    where
-      Same_along : {x y z : Done S V (End V)} → (cut x.out ≡ true) ⊎ (x ≡ y) → y ≡ z → (cut x.out ≡ true) ⊎ (x ≡ z)
-      Same_along (inl stop) q = inl stop
-      Same_along (inr p) q = inr (p ∙ q)
+      subst (λ (x : Done S V (End V)). Same (go_on m w d.out d.state d.log f) (go_on m w x.out x.state x.log g)) same (going d.out d.state d.log f g h)
 
   after : (f g : State S V → Done S V (End V)) (o : Out V) (q : State S V) → ((q : State S V) → Same (f q) (g q)) → Same (after_round m w f o q) (after_round m w g o q)
   unfolding Same
@@ -66,20 +66,13 @@ module _ {S V : Type 0} (m : HostMeaning S V) (w : Setting) (low high many : ℕ
       sequel (f i s) (g i s) _ _ (h i s) (λ o q. after (turns m w n f (suc i)) (turns m w n g (suc i)) o q (λ q. turning n f g (suc i) q h))
 
   left : (s : State S V) (d e : Done S V (End V)) → Same d e → Same (leaving m w s d) (leaving m w s e)
-  unfolding Same
-  left s d e (inl stop) = inl stop
-  left s d e (inr same) = inr (ap (λ (x : Done S V (End V)). leaving m w s x) same)
-
-  dropped : (n : ℕ) (x y : Done S V (End V)) → Same x y → Same (dropping m w n x) (dropping m w n y)
-  unfolding Same
-  dropped n x y (inl stop) = inl stop
-  dropped n x y (inr same) = inr (ap (λ (z : Done S V (End V)). dropping m w n z) same)
+  left s d e = within (leaving m w s) (λ x. refl) d e
 
   owned : (by : By) (rows : List (VarRow V)) (s : State S V) (f g : State S V → Done S V (End V)) → ((q : State S V) → Same (f q) (g q)) →
       Same (owning m w by rows s f) (owning m w by rows s g)
   owned by rows s f g h =
       let d = push_all m w by rows s in
-      dropped s.names (noting m w d.log (f d.state)) (noting m w d.log (g d.state)) (noted d.log (f d.state) (g d.state) (h d.state))
+      within (λ x. dropping m w s.names (noting m w d.log x)) (λ x. refl) (f d.state) (g d.state) (h d.state)
 
   bodies : (empty : Bool) (p : Position) (f g : State S V → Done S V (End V)) (s : State S V) → ((q : State S V) → Same (f q) (g q)) →
       Same (bodied m w low many empty p f s) (bodied m w high many empty p g s)

@@ -45,9 +45,6 @@ blocks_join (block u v ∷ l) n a b = (a.0, blocks_join l n a.1 b)
 
 -- names of one call
 module _ {A : Type 0} (level : ℕ) (by : By) (place : A → Place) where
-  pub called : List A → List Event
-  called xs = map (λ x. added level by (place x)) xs
-
   pub called-deep : (xs : List A) → Deep level (map (λ x. added level by (place x)) xs)
   called-deep [] = tt
   called-deep (x ∷ xs) = (omega arith, called-deep xs)

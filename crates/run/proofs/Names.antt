@@ -1,19 +1,21 @@
 -- names are those before, then those that a let or the host appended at the level; inner blocks end as they began
-use Rattle.std.proofs.Common.{◌≡◌, ℕ, suc, ◌+◌, ◌<◌, ◌≤◌, Bool, true, false, cond, ltb, List, [], ◌∷◌, ◌++◌, map, length, get_or, take, drop, set, sym, refl, ap, ◌∙◌, subst, arith, take-append-drop}
-use Rattle.std.proofs.lemmas.List.{append-nil, append_assoc, length-append, length-map, length-set, length-take-le, map-append, take-map, take-take, take_at, take-set}
-use Rattle.std.proofs.lemmas.Bool.{ltb-true}
+use Rattle.std.proofs.Common.{◌≡◌, ℕ, suc, ◌+◌, ◌<◌, ◌≤◌, Bool, true, false, cond, ltb, List, [], ◌∷◌, ◌++◌, map, length, get_or, take, drop, set, sym, refl, ap, ap₂, ◌∙◌, subst, arith, take-append-drop}
+use Rattle.std.proofs.lemmas.List.{append-nil, append_assoc, length-append, length-map, length-set, map-append, take-map, take-take, take_at, take_min, take-set}
+use Rattle.std.proofs.lemmas.Bool.{false≢true, ltb-true}
+use Rattle.std.proofs.Math.Seq.{map-set_same}
 use Rattle.rows.specs.declared.import.ImportRow.{ImportRow}
 use Rattle.rows.specs.declared.place.Place.{Place}
 use Rattle.rows.specs.declared.variable.VarRow.{VarRow}
 use Rattle.rows.specs.declared.variable.Access.TheVariants.{ReadWrite}
 use Rattle.rows.specs.Rows.{in_use, revalued, redeclared, blank_variable, import, blank_import}
 use Rattle.host.specs.Meaning.{HostMeaning, HostLaws, Grown, Step, place_of}
+use Rattle.host.proofs.Steps.{length_in_use}
 use Rattle.run.specs.Acts.{By, letting, evaluating, allowing, Act, ask, permit, room, declare, find, store, redeclare, another, load, Tree}
 use Rattle.run.specs.Says.{lasting, appended_at, BlocksKeep}
 use Rattle.run.specs.Walk.{Frame, Event, block, Setting, State, frame, charged, perform, hosted, sees, most, changed, pushed, push, push_all, set_all, cut_names, enter, leave, loaded, walk}
 use Rattle.run.proofs.Every.{Kept, every}
 use Rattle.run.proofs.Logs.{Deep, deep_join, deep-less, appended_join, appended_deeper, blocks_join, called-deep, called-blocks, called-appended, not_lasting}
-use Rattle.run.proofs.Rows.{in_use_lem, cut-length, cut-used, cut-rows, one_more, over-length, over-used, same-part}
+use Rattle.run.proofs.Rows.{cut-length, cut-used, cut-rows, one_more, over-length, over-used}
 
 module _ {S V : Type 0} (m : HostMeaning S V) (w : Setting) where
   abbrev pub places : State S V → List Place
@@ -38,7 +40,7 @@ module _ {S V : Type 0} (m : HostMeaning S V) (w : Setting) where
     pub blocks : BlocksKeep log
 
   count-places : (s : State S V) → Fit s → length (places s) ≡ s.names
-  count-places s f = length-map (in_use s.vars s.names) place_of ∙ ap length (in_use_lem s.vars s.names f.names) ∙ length-take-le s.names s.vars f.names
+  count-places s f = omega (arith, length-map (in_use s.vars s.names) place_of, length_in_use s.vars s.names, f.names)
 
   -- nothing happens, or only to what is not looked at
   same : (s r : State S V) → Fit s → length r.vars ≡ length s.vars → r.names ≡ s.names → r.level ≡ s.level → places r ≡ places s → r.imports ≡ s.imports → r.bound ≡ s.bound → Keeps s r []
@@ -54,6 +56,15 @@ module _ {S V : Type 0} (m : HostMeaning S V) (w : Setting) where
     deep = tt;
     blocks = tt;
   }
+
+  idle : (s : State S V) → Fit s → Keeps s s []
+  idle s f = same s s f refl refl refl refl refl refl
+
+  paid-keeps : (s : State S V) → Fit s → Keeps s (charged m w s) []
+  paid-keeps s f = same s (charged m w s) f refl refl refl refl refl refl
+
+  entered : (s : State S V) → Fit s → Fit (enter m w s)
+  entered s f = record { names = f.names; imports = f.imports }
 
   joined : (s r q : State S V) (l n : List Event) → Keeps s r l → Keeps r q n → Keeps s q (l ++ n)
   joined s r q l n a b = record {
@@ -74,37 +85,34 @@ module _ {S V : Type 0} (m : HostMeaning S V) (w : Setting) where
       further : (i j : ℕ) (xs ys : List ImportRow) → i ≤ j → take j xs ≡ take j ys → take i xs ≡ take i ys
       further i j xs ys le e = sym (take-take i j xs le) ∙ ap (take i) e ∙ take-take i j ys le
 
-  -- the names of the rows in use, cut to those of s
-  cut-places : (s r : State S V) (log : List Event) → Fit s → Keeps s r log → map place_of (take s.names r.vars) ≡ places s
-  cut-places s r log f k =
-      let le : s.names ≤ r.names = omega (arith, count-places s f, count-places r k.fit, ap length k.appended, length-append (places s) (appended_at s.level log)) in
-      ap (map place_of) (sym (take-take s.names r.names r.vars le)) ∙ sym (take-map place_of s.names (take r.names r.vars))
-      ∙ ap (λ x. take s.names (map place_of x)) (sym (in_use_lem r.vars r.names k.fit.names))
-      ∙ ap (take s.names) k.appended ∙ take_at (places s) (appended_at s.level log) s.names (count-places s f)
-
   names_rise : (s r : State S V) (log : List Event) → Fit s → Keeps s r log → s.names ≤ r.names
   names_rise s r log f k =
       omega (arith, count-places s f, count-places r k.fit, ap length k.appended, length-append (places s) (appended_at s.level log))
 
+  -- the names of the rows in use, cut to those of s
+  cut-places : (s r : State S V) (log : List Event) → Fit s → Keeps s r log → map place_of (take s.names r.vars) ≡ places s
+  cut-places s r log f k =
+      ap (map place_of) (sym (take-take s.names r.names r.vars (names_rise s r log f k))) ∙ sym (take-map place_of s.names (take r.names r.vars))
+      ∙ ap (λ x. take s.names (map place_of x)) (sym (take_min r.names r.vars)) ∙ ap (take s.names) k.appended ∙ take_at (places s) (appended_at s.level log) s.names (count-places s f)
+
   same-frame : (a b : List Place) (i j : List ImportRow) (level : ℕ) (mark : Bool) → a ≡ b → i ≡ j →
       ◌≡◌ {A = Frame} (record { names = a; imports = i; level = level; mark = mark }) (record { names = b; imports = j; level = level; mark = mark })
   same-frame a b i j level mark p q =
-      ap (λ x. record { names = x; imports = i; level = level; mark = mark }) p ∙ ap (λ y. record { names = b; imports = y; level = level; mark = mark }) q
+      ap₂ (λ x y. record { names = x; imports = y; level = level; mark = mark }) p q
 
   -- the end of an inner block
   left-places : (s r : State S V) (l : List Event) → Fit s → Keeps (enter m w s) r l → places (leave m w s r) ≡ places s
   left-places s r l f k =
-      ap (map place_of) (cut-rows (blank_variable m.unit) r.vars r.names s.names k.fit.names (names_rise (enter m w s) r l (record { names = f.names; imports = f.imports }) k))
-      ∙ cut-places (enter m w s) r l (record { names = f.names; imports = f.imports }) k
+      ap (map place_of) (cut-rows (blank_variable m.unit) r.vars r.names s.names k.fit.names (names_rise (enter m w s) r l (entered s f) k))
+      ∙ cut-places (enter m w s) r l (entered s f) k
 
   left-imports : (s r : State S V) (l : List Event) → Fit s → Keeps (enter m w s) r l → in_use (leave m w s r).imports (leave m w s r).bound ≡ in_use s.imports s.bound
   left-imports s r l f k =
-      cut-rows blank_import r.imports r.bound s.bound k.fit.imports k.bound ∙ k.imported ∙ sym (in_use_lem s.imports s.bound f.imports)
+      cut-rows blank_import r.imports r.bound s.bound k.fit.imports k.bound ∙ k.imported ∙ sym (take_min s.bound s.imports)
 
   leaves : (s r : State S V) (l : List Event) → Fit s → Keeps (enter m w s) r l →
       Keeps s (leave m w s r) (l ++ (block (frame m w s) (frame m w (leave m w s r)) ∷ []))
   leaves s r l f k =
-      let entered : Fit (enter m w s) = record { names = f.names; imports = f.imports } in
       let wide = cut-length (blank_variable m.unit) r.vars r.names s.names k.fit.names in
       let broad = cut-length blank_import r.imports r.bound s.bound k.fit.imports in
       let names = cut-used r.vars r.names s.names k.fit.names in
@@ -122,8 +130,8 @@ module _ {S V : Type 0} (m : HostMeaning S V) (w : Setting) where
         bound = omega (arith, k.bound);
         imported =
             ap (λ n. take n (leave m w s r).imports) (omega (arith, k.bound))
-            ∙ sym (in_use_lem (leave m w s r).imports (leave m w s r).bound (omega (arith, f.imports, k.broad)))
-            ∙ left-imports s r l f k ∙ in_use_lem s.imports s.bound f.imports;
+            ∙ sym (take_min (leave m w s r).bound (leave m w s r).imports)
+            ∙ left-imports s r l f k ∙ take_min s.bound s.imports;
         deep = deep_join s.level l noted (deep-less s.level l k.deep) tt;
         blocks = blocks_join l noted k.blocks (same-frame _ _ _ _ s.level s.mark (left-places s r l f k) (left-imports s r l f k), tt);
       }
@@ -132,7 +140,7 @@ module _ {S V : Type 0} (m : HostMeaning S V) (w : Setting) where
   hosted-keeps : {A : Type 0} (by : By) (s : State S V) (e : Step S V A) → lasting by ≡ true → Grown (most m w s) (in_use s.vars s.names) e.rows → Fit s →
       Keeps s (hosted m w by s e).state (hosted m w by s e).log
   hosted-keeps by s e last g f =
-      let n : length (in_use s.vars s.names) ≡ s.names = ap length (in_use_lem s.vars s.names f.names) ∙ length-take-le s.names s.vars f.names in
+      let n : length (in_use s.vars s.names) ≡ s.names = omega (arith, length_in_use s.vars s.names, f.names) in
       let room : length e.rows ≤ length s.vars = omega (arith, g.limited, f.names) in
       record {
         fit = record { names = omega (arith, over-length e.rows s.vars room); imports = f.imports };
@@ -141,7 +149,7 @@ module _ {S V : Type 0} (m : HostMeaning S V) (w : Setting) where
         broad = refl;
         level = refl;
         appended =
-            ap (map place_of) (over-used e.rows s.vars room) ∙ ap (map place_of) (sym (take-append-drop s.names e.rows))
+            ap (map place_of) (over-used e.rows s.vars) ∙ ap (map place_of) (sym (take-append-drop s.names e.rows))
             ∙ map-append place_of (take s.names e.rows) (drop s.names e.rows)
             ∙ ap (λ x. x ++ map place_of (drop s.names e.rows)) (ap (λ k. map place_of (take k e.rows)) (sym n) ∙ g.places)
             ∙ ap (λ x. places s ++ x) (sym (called-appended s.level by place_of last (drop s.names e.rows)));
@@ -154,12 +162,12 @@ module _ {S V : Type 0} (m : HostMeaning S V) (w : Setting) where
   -- a row that is changed keeps its name
   changed-keeps : (s : State S V) (i : ℕ) (g : VarRow V → VarRow V) → ((r : VarRow V) → place_of (g r) ≡ place_of r) → Fit s → Keeps s (changed m w s i g) []
   changed-keeps s i g h f =
-      let rows = set s.vars i (g (get_or s.vars i (blank_variable m.unit))) in
-      let wide = length-set s.vars i (g (get_or s.vars i (blank_variable m.unit))) in
-      same s (changed m w s i g) f wide refl refl
-      (ap (map place_of) (in_use_lem rows s.names (omega (arith, f.names))) ∙ sym (take-map place_of s.names rows)
-      ∙ ap (take s.names) (same-part place_of s.vars i (blank_variable m.unit) g h)
-      ∙ take-map place_of s.names s.vars ∙ ap (map place_of) (sym (in_use_lem s.vars s.names f.names)))
+      let old = get_or s.vars i (blank_variable m.unit) in
+      let rows = set s.vars i (g old) in
+      same s (changed m w s i g) f (length-set s.vars i (g old)) refl refl
+      (ap (map place_of) (take_min s.names rows) ∙ sym (take-map place_of s.names rows)
+      ∙ ap (take s.names) (map-set_same place_of s.vars i (g old) (blank_variable m.unit) (h old))
+      ∙ take-map place_of s.names s.vars ∙ ap (map place_of) (sym (take_min s.names s.vars)))
       refl refl
 
   -- what an append leaves
@@ -173,6 +181,19 @@ module _ {S V : Type 0} (m : HostMeaning S V) (w : Setting) where
     pub more : (own : List Place) × (places r ≡ places s ++ own) × (lasting by ≡ true → own ≡ appended_at s.level log) × (lasting by ≡ false → appended_at s.level log ≡ [])
     pub deep : Deep s.level log
     pub blocks : BlocksKeep log
+
+  pushes_none : (by : By) (s : State S V) → Fit s → Pushes s s by []
+  pushes_none by s f = record {
+    fit = f;
+    few = λ le. le;
+    wide = refl;
+    level = refl;
+    imports = refl;
+    bound = refl;
+    more = ([], sym (append-nil (places s)), (λ last. refl), (λ short. refl));
+    deep = tt;
+    blocks = tt;
+  }
 
   pushes : (b : Bool) (by : By) (r : VarRow V) (s : State S V) → ltb s.names (most m w s) ≡ b → Fit s → Pushes s (pushed m w b by r s).state by (pushed m w b by r s).log
   pushes true by r s e f =
@@ -193,17 +214,7 @@ module _ {S V : Type 0} (m : HostMeaning S V) (w : Setting) where
         deep = (omega arith, tt);
         blocks = tt;
       }
-  pushes false by r s e f = record {
-    fit = f;
-    few = λ le. le;
-    wide = refl;
-    level = refl;
-    imports = refl;
-    bound = refl;
-    more = ([], sym (append-nil (places s)), (λ last. refl), (λ short. refl));
-    deep = tt;
-    blocks = tt;
-  }
+  pushes false by r s e f = pushes_none by s f
 
   declares : (r : VarRow V) (s : State S V) → Fit s → Keeps s (push m w letting r s).state (push m w letting r s).log
   declares r s f =
@@ -223,17 +234,7 @@ module _ {S V : Type 0} (m : HostMeaning S V) (w : Setting) where
 
   -- several names that will go again
   push_alls : (by : By) (rows : List (VarRow V)) (s : State S V) → lasting by ≡ false → Fit s → Pushes s (push_all m w by rows s).state by (push_all m w by rows s).log
-  push_alls by [] s short f = record {
-    fit = f;
-    few = λ le. le;
-    wide = refl;
-    level = refl;
-    imports = refl;
-    bound = refl;
-    more = ([], sym (append-nil (places s)), (λ last. refl), (λ short. refl));
-    deep = tt;
-    blocks = tt;
-  }
+  push_alls by [] s short f = pushes_none by s f
   push_alls by (r ∷ rs) s short f =
       let p = pushes (ltb s.names (most m w s)) by r s refl f in
       let d = push m w by r s in
@@ -249,7 +250,7 @@ module _ {S V : Type 0} (m : HostMeaning S V) (w : Setting) where
         more = (
           p.more.0 ++ q.more.0,
           q.more.1 ∙ ap (λ x. x ++ q.more.0) p.more.1 ∙ append_assoc (places s) p.more.0 q.more.0,
-          (λ last. absurd (let z : ◌≡◌ {A = ℕ} 0 1 = cc (sym short ∙ last) in omega arith)),
+          (λ last. absurd (false≢true (sym short ∙ last))),
           (λ short'. appended_join s.level d.log log ∙ ap (λ x. x ++ appended_at s.level log) (p.more.3 short')
               ∙ ap (λ k. appended_at k log) (sym p.level) ∙ q.more.3 short'),
         );
@@ -285,22 +286,22 @@ module _ {S V : Type 0} (m : HostMeaning S V) (w : Setting) where
         deep = tt;
         blocks = tt;
       }
-  loads_keep false p n s f = same s s f refl refl refl refl refl refl
+  loads_keep false p n s f = idle s f
 
   module _ (laws : HostLaws m) where
     acts : (a : Act V) (s : State S V) → Fit s → Keeps s (perform m w a s).state (perform m w a s).log
     acts (ask c) s f = hosted-keeps evaluating s (m.evaluate s.host c (sees m w s)) refl (laws.evaluates s.host c (sees m w s)) f
     acts (permit p a) s f = hosted-keeps allowing s (m.allow s.host _ (sees m w s)) refl (laws.allows s.host _ (sees m w s)) f
-    acts (room k) s f = same s s f refl refl refl refl refl refl
+    acts (room k) s f = idle s f
     acts (declare r) s f = declares r s f
-    acts (find p i) s f = same s s f refl refl refl refl refl refl
+    acts (find p i) s f = idle s f
     acts (store i v) s f = changed-keeps s i (λ r. revalued r v) (λ r. refl) f
     acts (redeclare i a v) s f = changed-keeps s i (λ r. redeclared r a v) (λ r. refl) f
-    acts another s f = same s s f refl refl refl refl refl refl
+    acts another s f = idle s f
     acts (load p n) s f = loads_keep (ltb s.loaded w.modules) p n s f
 
     sets : (i : ℕ) (vs : List V) (s : State S V) → Fit s → Keeps s (set_all m w i vs s) []
-    sets i [] s f = same s s f refl refl refl refl refl refl
+    sets i [] s f = idle s f
     sets i (v ∷ vs) s f =
         let k = changed-keeps s i (λ r. redeclared r ReadWrite v) (λ r. refl) f in
         joined s (changed m w s i (λ r. redeclared r ReadWrite v)) _ [] [] k (sets (suc i) vs _ k.fit)
@@ -345,22 +346,22 @@ module _ {S V : Type 0} (m : HostMeaning S V) (w : Setting) where
     module _ (limit many : ℕ) where
       names_kept : Kept m w limit many P R
       names_kept = record {
-        idle = λ s f. same s s f refl refl refl refl refl refl;
-        pays = λ s lt f. same s (charged m w s) f refl refl refl refl refl refl;
-        spends = λ s le f. same s (charged m w s) f refl refl refl refl refl refl;
-        acts = λ a s f. acts a s f;
+        idle = idle;
+        pays = λ s lt f. paid-keeps s f;
+        spends = λ s le f. paid-keeps s f;
+        acts = acts;
         joins = λ s r q b l n h g f. let k = h f in joined s r q l n k (g k.fit);
-        blocks = λ s b r l h f. leaves s r l f (h (record { names = f.names; imports = f.imports }));
-        idle_own = λ s f. (same s s f refl refl refl refl refl refl, tt);
-        pays_own = λ s lt f. (same s (charged m w s) f refl refl refl refl refl refl, tt);
-        spends_own = λ s le f. (same s (charged m w s) f refl refl refl refl refl refl, tt);
+        blocks = λ s b r l h f. leaves s r l f (h (entered s f));
+        idle_own = λ s f. (idle s f, tt);
+        pays_own = λ s lt f. (paid-keeps s f, tt);
+        spends_own = λ s le f. (paid-keeps s f, tt);
         sets_own = λ i vs s f. (sets i vs s f, tt);
         joins_own = λ s r q b l n h g f.
             let k = h f in
             let j = g k.0.fit in
             (joined s r q l n k.0 j.0, deep_join (suc s.level) l n k.1 (subst (λ x. Deep (suc x) n) k.0.level j.1));
         blocks_own = λ s b r l h f.
-            let k = h (record { names = f.names; imports = f.imports }) in
+            let k = h (entered s f) in
             (leaves s r l f k, deep_join (suc s.level) l _ k.deep tt);
         owns = λ by rows s b r l short h f.
             let k = h (push_alls by rows s short f).fit in

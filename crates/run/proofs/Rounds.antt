@@ -1,5 +1,5 @@
 -- rounds that go on have charged, so that it does not show for how many rounds a loop is looked at
-use Rattle.std.proofs.Common.{◌≡◌, ℕ, zero, suc, ◌+◌, ◌<◌, ◌≤◌, Bool, true, false, T, ltb, List, [], ◌∷◌, refl, ap, ◌∙◌, arith}
+use Rattle.std.proofs.Common.{◌≡◌, ℕ, zero, suc, ◌+◌, ◌<◌, ◌≤◌, Bool, true, false, T, ltb, List, [], ◌∷◌, refl, ap, ◌∙◌, subst, arith}
 use Rattle.image.specs.declared.rows.Position.{Position}
 use Rattle.rows.specs.declared.variable.VarRow.{VarRow}
 use Rattle.host.specs.Meaning.{HostMeaning}
@@ -157,11 +157,7 @@ module _ {S V : Type 0} (m : HostMeaning S V) (w : Setting) where
 
       turn_rises : (b : Bool) → (b ≡ false → First t) → (x : Turn V) → Ends x → (s : State S V) →
           T (goes_on (turned m w limit j first b p (walk m w limit j t) x s).out) → s.count < (turned m w limit j first b p (walk m w limit j t) x s).state.count
-      turn_rises b h (over o) e s g = absurd (stuck (onward o) e g)
-        where
-          stuck : (u : Bool) → u ≡ false → T u → ⊥
-          stuck true q g = let z : ◌≡◌ {A = ℕ} 0 1 = cc q in omega arith
-          stuck false q g = absurd g
+      turn_rises b h (over o) e s g = absurd (subst T e g)
       turn_rises b h (sets vs) e s g = omega (arith, body-rises b h (set_all m w first vs s), set_all_free m w limit j first vs s)
 
     body_alike : (b : Bool) (p : Position) (f g : State S V → Done S V (End V)) → Alike f g → Alike (bodied m w limit n b p f) (bodied m w limit k b p g)

@@ -1,7 +1,8 @@
 -- what a session promises
 use Rattle.std.proofs.Common.{◌≡◌, ℕ, ◌+◌, ◌≤◌, Bool, true, false, eqb, leb, ◌⊎◌, List, [], ◌∷◌, ◌++◌, map, length, take, drop, Some, None, Ok, Option, Result, sym, refl, ap, ◌∙◌, subst, inl, inr, arith}
-use Rattle.std.proofs.lemmas.List.{length-take, take-take, take-append-le, length-append}
+use Rattle.std.proofs.lemmas.List.{length-take, take-take, take-append-le, take_min}
 use Rattle.std.proofs.lemmas.Bool.{or_parts, ltb-false, leb-false}
+use Rattle.std.proofs.lemmas.Option.{none-some, same_Some}
 use Rattle.image.specs.Layouts.{headed, counted as sized}
 use Rattle.image.specs.declared.refusal.Refusal.{Refusal}
 use Rattle.image.specs.declared.refusal.Refusal.TheVariants.{Header, Counts, Blocks, Rows as BadRows, Naming, Nesting, StrayBreak}
@@ -27,7 +28,7 @@ use Rattle.run.proofs.Counts.{counted}
 use Rattle.run.proofs.EachKind.{Bound, good_whole}
 use Rattle.run.proofs.Limits.{Same, limits}
 use Rattle.run.proofs.Names.{Fit, keeps}
-use Rattle.run.proofs.Rows.{in_use_lem, cut-used}
+use Rattle.run.proofs.Rows.{cut-used}
 
 not_twelve : {V : Type 0} (f : RunFault V) → eqb (number f) 12 ≡ false
 not_twelve (NotAllowed p) = refl
@@ -57,12 +58,10 @@ stopped_is unit false (ended (exited p v)) = refl
 
 -- the first rows of a table, laid over it again
 laid-used : {A : Type 0} (n k : ℕ) (rows table : List A) → k ≤ length rows → in_use (rows ++ drop n table) k ≡ in_use rows k
-laid-used n k rows table le =
-    in_use_lem (rows ++ drop n table) k (omega (arith, length-append rows (drop n table))) ∙ take-append-le k rows (drop n table) le ∙ sym (in_use_lem rows k le)
+laid-used n k rows table le = take_min k (rows ++ drop n table) ∙ take-append-le k rows (drop n table) le ∙ sym (take_min k rows)
 
 lent_used : {A : Type 0} (n k : ℕ) (table : List A) → k ≤ length (take n table) → in_use (take n table) k ≡ in_use table k
-lent_used n k table le =
-    in_use_lem (take n table) k le ∙ take-take k n table (omega (arith, length-take n table)) ∙ sym (in_use_lem table k (omega (arith, length-take n table)))
+lent_used n k table le = take_min k (take n table) ∙ take-take k n table (omega (arith, length-take n table)) ∙ sym (take_min k table)
 
 -- an answer that went through a test
 through : (b : Bool) (r : Refusal) (a : Result (Option ℕ) Refusal) (x : Option ℕ) → unless b r a ≡ Ok x → a ≡ Ok x
@@ -92,8 +91,8 @@ module _ {S V W : Type 0} (m : HostMeaning S V) (laws : HostLaws m) (idle : W) (
   bounded : (c : Option ℕ) (q limit : ℕ) (s : State S V) → Bound m (setting m idle resolver t) c (whole m resolver t.rule) → c ≡ Some q →
       (walk m (setting m idle resolver t) limit many_rounds (whole m resolver t.rule) s).state.count ≤ s.count + q
   unfolding Bound
-  bounded None q limit s b e = absurd (let z : ◌≡◌ {A = ℕ} 0 1 = cc e in omega arith)
-  bounded (Some n) q limit s b e = let same : n ≡ q = cc e in omega (arith, b limit many_rounds s)
+  bounded None q limit s b e = absurd (none-some q e)
+  bounded (Some n) q limit s b e = omega (arith, b limit many_rounds s, same_Some n q e)
 
   -- the count of one run
   run-within : (limit : ℕ) (l : Lent) (exit : Bool) (u : World S V W) → let e = runs m idle resolver t limit l exit u in Within t.rule limit (stops e.answer) (count_of e.answer)
