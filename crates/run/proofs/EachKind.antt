@@ -55,17 +55,15 @@ module _ {S V : Type 0} (m : HostMeaning S V) (w : Setting) where
   told : {t : Tree V} (c e : Option ℕ) → c ≡ e → Good t c → Good t e
   told {t} c e p g = subst (λ x. Good t x) p g
 
-  -- what counts nothing has any bound
-  light : {t : Tree V} (c : Option ℕ) → Good t (Some 0) → Good t c
-  unfolding Bound
-  light None g = record { proper = g.proper; bound = tt }
-  light (Some n) g = record { proper = g.proper; bound = λ limit many s. omega (arith, g.bound limit many s) }
-
   heavier : {t : Tree V} (e c : Option ℕ) → Good t c → Good t (plus e c)
   unfolding Bound
   heavier None c g = record { proper = g.proper; bound = tt }
   heavier (Some a) None g = record { proper = g.proper; bound = tt }
   heavier (Some a) (Some b) g = record { proper = g.proper; bound = λ limit many s. omega (arith, g.bound limit many s) }
+
+  -- what counts nothing has any bound
+  light : {t : Tree V} (c : Option ℕ) → Good t (Some 0) → Good t c
+  light c g = told (plus c (Some 0)) c (plus_zero c) (heavier c (Some 0) g)
 
   good_done : (o : Out V) → Good (done o) (Some 0)
   unfolding Bound Proper walk
@@ -133,11 +131,11 @@ module _ {S V : Type 0} (m : HostMeaning S V) (w : Setting) where
   pub record Goes {A : Type 0} (d : Doing V A) (c : Option ℕ) : Type 0 where
     pub goes : (e : Option ℕ) (k : Out V → Tree V) (ok : A → Tree V) → ((o : Out V) → Good (k o) e) → ((a : A) → Good (ok a) e) → Good (d k ok) (plus c e)
 
-  goes-give : {A : Type 0} (a : A) → Goes (give {V = V} a) (Some 0)
-  goes-give a = record { goes = λ e k ok hk ho. heavier (Some 0) e (ho a) }
+  goes-give : {A : Type 0} {c : Option ℕ} (a : A) → Goes (give {V = V} a) c
+  goes-give {A} {c} a = record { goes = λ e k ok hk ho. heavier c e (ho a) }
 
-  goes-ends : {A : Type 0} (o : Out V) → Goes (ends {V = V} {A = A} o) (Some 0)
-  goes-ends o = record { goes = λ e k ok hk ho. heavier (Some 0) e (hk o) }
+  goes-ends : {A : Type 0} {c : Option ℕ} (o : Out V) → Goes (ends {V = V} {A = A} o) c
+  goes-ends {A} {c} o = record { goes = λ e k ok hk ho. heavier c e (hk o) }
 
   goes-pays : (p : Position) → Goes (pays {V = V} p) (Some 1)
   goes-pays p = record { goes = λ e k ok hk ho. good_charge p _ e (ho tt) }
@@ -151,6 +149,16 @@ module _ {S V : Type 0} (m : HostMeaning S V) (w : Setting) where
         told (plus c (plus e x)) (plus (plus c e) x) (plus_assoc c e x)
         (hd.goes (plus e x) k (λ a. f a k ok) (λ o. heavier e x (hk o)) (λ a. (hf a).goes x k ok hk ho));
   }
+
+  costs : {A : Type 0} {d : Doing V A} (c e : Option ℕ) → c ≡ e → Goes d c → Goes d e
+  costs {A} {d} c e p g = subst (λ x. Goes d x) p g
+
+  -- after what counts nothing, and with what counts nothing after it
+  goes_free : {A B : Type 0} (d : Doing V A) (f : A → Doing V B) {e : Option ℕ} → Goes d (Some 0) → ((a : A) → Goes (f a) e) → Goes (d >>= f) e
+  goes_free d f {e} hd hf = costs (plus (Some 0) e) e (zero_plus e) (goes_bind d f (Some 0) e hd hf)
+
+  goes_then : {A B : Type 0} (d : Doing V A) (f : A → Doing V B) {c : Option ℕ} → Goes d c → ((a : A) → Goes (f a) (Some 0)) → Goes (d >>= f) c
+  goes_then d f {c} hd hf = costs (plus c (Some 0)) c (plus_zero c) (goes_bind d f c (Some 0) hd hf)
 
   goes-pass : (o : Out V) → Goes (pass o) (Some 0)
   goes-pass (value v) = goes-give v
@@ -219,20 +227,20 @@ module _ {S V : Type 0} (m : HostMeaning S V) (w : Setting) where
 
   module _ (resolver : ℕ → Resolved) (s : List ℕ) where
     goes-worth : (at : Position) (x : ExprKind) → Goes (worth m resolver s at x) (Some 0)
-    goes-worth at (HostCode c) = goes_bind _ _ (Some 0) (Some 0) (goes-does _) (λ r. goes-answered at r)
+    goes-worth at (HostCode c) = goes_free _ _ (goes-does _) (λ r. goes-answered at r)
     goes-worth at UnitExpr = goes-give m.unit
     goes-worth at False = goes-give (m.make_truth false)
     goes-worth at True = goes-give (m.make_truth true)
 
     goes-evaluate : (e : ℕ) → Goes (evaluate m resolver s e) (Some 1)
-    goes-evaluate e = goes_bind _ _ (Some 1) (Some 0) (goes-pays _) (λ _. goes-worth (expr_of m resolver s e).at (expr_of m resolver s e).kind)
+    goes-evaluate e = goes_then _ _ (goes-pays _) (λ _. goes-worth (expr_of m resolver s e).at (expr_of m resolver s e).kind)
 
     goes-optional : (e : Option ℕ) → Goes (optional m resolver s e) (Some (expr_charges e))
     goes-optional None = goes-give m.unit
     goes-optional (Some e) = goes-evaluate e
 
     goes-condition : (e : ℕ) → Goes (condition m resolver s e) (Some 1)
-    goes-condition e = goes_bind _ _ (Some 1) (Some 0) (goes-evaluate e) (λ v. goes-known (expr_of m resolver s e).at (m.truth v))
+    goes-condition e = goes_then _ _ (goes-evaluate e) (λ v. goes-known (expr_of m resolver s e).at (m.truth v))
 
     goes-combined : (at : Position) (o : Option ℕ) (old v : V) → Goes (combined m resolver s at o old v) (Some 0)
     goes-combined at None old v = goes-give v
@@ -276,7 +284,7 @@ module _ {S V : Type 0} (m : HostMeaning S V) (w : Setting) where
           go false (Some a) (Some b) g h = record { proper = h.proper; bound = λ limit many s. omega (arith, h.bound limit many s) }
 
       goes-body : (b : Bool) (at : Position) (p : Option ℕ) → empty p ≡ b → (c : Option ℕ) × Goes (body m resolver s stmts empty b at p) c
-      goes-body true at p e = (Some 1, goes_bind _ _ (Some 1) (Some 0) (goes-pays at) (λ _. goes-give m.unit))
+      goes-body true at p e = (Some 1, goes_then _ _ (goes-pays at) (λ _. goes-give m.unit))
       goes-body false at p e = (q p, goes_sub (run m resolver s stmts empty p) (q p) (good_run p))
 
       -- a body that is not empty begins with a charge
@@ -291,14 +299,14 @@ module _ {S V : Type 0} (m : HostMeaning S V) (w : Setting) where
       good_while : (b : Bool) (at : Position) (e : ℕ) (p : Option ℕ) → (c : Option ℕ) × Good (alone (while_round m resolver s stmts empty b at e p)) c
       good_while true at e p = let g = goes-body (empty p) at p refl in (g.0, good_alone _ g.0 g.1)
       good_while false at e p = (
-        plus (Some 1) (plus (Some 0) (q p)),
-        good_alone _ _ (goes_bind _ _ (Some 1) (plus (Some 0) (q p)) (goes-condition e) (λ b. goes_bind _ _ (Some 0) (q p) (goes-turned b) (λ _. goes_sub _ (q p) (good_run p)))),
+        plus (Some 1) (q p),
+        good_alone _ _ (goes_bind _ _ (Some 1) (q p) (goes-condition e) (λ b. goes_free _ _ (goes-turned b) (λ _. goes_sub _ (q p) (good_run p)))),
       )
 
       good_do : (e : ℕ) (p : Option ℕ) (n : Bool) → (c : Option ℕ) × Good (alone (do_round m resolver s stmts empty e p n)) c
       good_do e p n = (
         plus (q p) (Some 1),
-        good_alone _ _ (goes_bind _ _ (q p) (Some 1) (goes_sub _ (q p) (good_run p)) (λ _. goes_bind _ _ (Some 1) (Some 0) (goes-condition e) (λ b. goes-turned (cond n (not b) b)))),
+        good_alone _ _ (goes_bind _ _ (q p) (Some 1) (goes_sub _ (q p) (good_run p)) (λ _. goes_then _ _ (goes-condition e) (λ b. goes-turned (cond n (not b) b)))),
       )
 
       -- a round of a Do charges in its body, or in its condition
@@ -327,39 +335,33 @@ module _ {S V : Type 0} (m : HostMeaning S V) (w : Setting) where
       goes-handler : (at : Position) (n : Option Name) (p : Option ℕ) (f : Failure V) → Goes (handler m resolver s stmts empty at n p f) (q p)
       goes-handler at None p f = goes-outcome _ (q p) (good_run p)
       goes-handler at (Some n) p f =
-          eased (q p) (goes_bind _ _ (Some 0) (plus (Some 0) (q p)) (goes-does _)
-          (λ b. goes_bind _ _ (Some 0) (q p) (goes-roomy at b) (λ _. goes-outcome _ (q p) (bind_by (empty p) _ p))))
-        where
-          eased : {A : Type 0} {d : Doing V A} (c : Option ℕ) → Goes d (plus (Some 0) (plus (Some 0) c)) → Goes d c
-          eased {A} {d} c g = subst (λ x. Goes d x) (zero_plus (plus (Some 0) c) ∙ zero_plus c) g
+          goes_free _ _ (goes-does _) (λ b. goes_free _ _ (goes-roomy at b) (λ _. goes-outcome _ (q p) (bind_by (empty p) _ p)))
 
       goes-handled : (b : Bool) (at : Position) (n : Option Name) (p : Option ℕ) (f : Failure V) → Goes (handled m resolver s stmts empty b at n p f) (q p)
-      goes-handled false at n p f = record { goes = λ e k ok hk ho. heavier (q p) e (hk (failed f)) }
-      goes-handled true at n p f =
-          let d = handled m resolver s stmts empty true at n p f in
-          subst (λ x. Goes d x) (plus_zero (q p)) (goes_bind _ _ (q p) (Some 0) (goes-handler at n p f) (λ o. goes-caught f o))
+      goes-handled false at n p f = goes-ends (failed f)
+      goes-handled true at n p f = goes_then _ _ (goes-handler at n p f) (λ o. goes-caught f o)
 
       goes-tried : (at : Position) (n : Option Name) (p : Option ℕ) (o : Out V) → Goes (tried m resolver s stmts empty at n p o) (q p)
-      goes-tried at n p (value v) = record { goes = λ e k ok hk ho. heavier (q p) e (ho v) }
+      goes-tried at n p (value v) = goes-give v
       goes-tried at n p (failed f) = goes-handled (catchable f.fault) at n p f
-      goes-tried at n p (broke v) = record { goes = λ e k ok hk ho. heavier (q p) e (hk (broke v)) }
-      goes-tried at n p again = record { goes = λ e k ok hk ho. heavier (q p) e (hk again) }
-      goes-tried at n p (returned v) = record { goes = λ e k ok hk ho. heavier (q p) e (hk (returned v)) }
-      goes-tried at n p (exited x v) = record { goes = λ e k ok hk ho. heavier (q p) e (hk (exited x v)) }
+      goes-tried at n p (broke v) = goes-ends (broke v)
+      goes-tried at n p again = goes-ends again
+      goes-tried at n p (returned v) = goes-ends (returned v)
+      goes-tried at n p (exited x v) = goes-ends (exited x v)
 
       goes_declared : (at : Position) (n : Place) (a : Access) (e : ℕ) (r : Option ℕ) → Goes (declared m resolver s stmts empty at n a e r) (Some 1)
       goes_declared at n a e None =
-          goes_bind _ _ (Some 0) (Some 1) (goes-does _) (λ b.
-          goes_bind _ _ (Some 0) (Some 1) (goes-roomy at b) (λ _.
-          goes_bind _ _ (Some 1) (Some 0) (goes-evaluate e) (λ v.
-          goes_bind _ _ (Some 0) (Some 0) (goes-does _) (λ c.
-          goes_bind _ _ (Some 0) (Some 0) (goes-roomy at c) (λ _.
-          goes_bind _ _ (Some 0) (Some 0) (goes-does _) (λ _. goes-give m.unit))))))
+          goes_free _ _ (goes-does _) (λ b.
+          goes_free _ _ (goes-roomy at b) (λ _.
+          goes_then _ _ (goes-evaluate e) (λ v.
+          goes_free _ _ (goes-does _) (λ c.
+          goes_free _ _ (goes-roomy at c) (λ _.
+          goes_free _ _ (goes-does _) (λ _. goes-give m.unit))))))
       goes_declared at n a e (Some r) =
-          goes_bind _ _ (Some 1) (Some 0) (goes-evaluate e) (λ v.
-          goes_bind _ _ (Some 0) (Some 0) (goes-does _) (λ f.
-          goes_bind _ _ (Some 0) (Some 0) (goes-target at n f) (λ t.
-          goes_bind _ _ (Some 0) (Some 0) (goes-does _) (λ _. goes-give m.unit))))
+          goes_then _ _ (goes-evaluate e) (λ v.
+          goes_free _ _ (goes-does _) (λ f.
+          goes_free _ _ (goes-target at n f) (λ t.
+          goes_free _ _ (goes-does _) (λ _. goes-give m.unit))))
 
       -- each kind of statement: what it counts besides its own charge
       goes-begun : (at : Position) (x : Stmt) → (c : Option ℕ) × Goes (begun m resolver s stmts empty at x) c × (plus (Some 1) c ≡ stmt_quote x (q (parts x).body) (q (parts x).branch))
@@ -369,17 +371,17 @@ module _ {S V : Type 0} (m : HostMeaning S V) (w : Setting) where
       goes-begun at (Assignment n e o r) = (
         Some 2,
         goes_bind _ _ (Some 1) (Some 1) (goes-evaluate e) (λ v.
-            goes_bind _ _ (Some 1) (Some 0) (goes-pays at) (λ _.
-            goes_bind _ _ (Some 0) (Some 0) (goes-does (find (Statements.rule_name n) r)) (λ f.
-            goes_bind _ _ (Some 0) (Some 0) (goes-target at (Statements.rule_name n) f) (λ t.
-            goes_bind _ _ (Some 0) (Some 0) (goes-writable at (Statements.rule_name n) t.1.access) (λ _.
-            goes_bind _ _ (Some 0) (Some 0) (goes-combined at o t.1.value v) (λ u.
-            goes_bind _ _ (Some 0) (Some 0) (goes-does (store t.0 u)) (λ _. goes-give m.unit))))))),
+            goes_then _ _ (goes-pays at) (λ _.
+            goes_free _ _ (goes-does (find (Statements.rule_name n) r)) (λ f.
+            goes_free _ _ (goes-target at (Statements.rule_name n) f) (λ t.
+            goes_free _ _ (goes-writable at (Statements.rule_name n) t.1.access) (λ _.
+            goes_free _ _ (goes-combined at o t.1.value v) (λ u.
+            goes_free _ _ (goes-does (store t.0 u)) (λ _. goes-give m.unit))))))),
         refl,
       )
       goes-begun at (Var n e r c) = (
         Some 1,
-        goes_bind _ _ (Some 0) (Some 1) (goes-does _) (λ a. goes_bind _ _ (Some 0) (Some 1) (goes-permitted at _ a) (λ _. goes_declared at _ _ e r)),
+        goes_free _ _ (goes-does _) (λ a. goes_free _ _ (goes-permitted at _ a) (λ _. goes_declared at _ _ e r)),
         refl,
       )
       goes-begun at (If e p p') = (
@@ -395,29 +397,29 @@ module _ {S V : Type 0} (m : HostMeaning S V) (w : Setting) where
           (None, goes_sub _ None (good_rounds _ g.0 g.1 (do_lively e p n)), refl)
       goes-begun at (For n c e p) = (
         None,
-        goes_bind _ _ (Some 0) None (goes-does _) (λ b.
-            goes_bind _ _ (Some 0) None (goes-roomy at b) (λ _.
+        goes_free _ _ (goes-does _) (λ b.
+            goes_free _ _ (goes-roomy at b) (λ _.
             goes_bind _ _ (Some 1) None (goes-evaluate e) (λ v.
-            goes_bind _ _ (Some 0) None (goes-iterable _ _) (λ _.
-            goes_bind _ _ (Some 0) None (goes-does _) (λ b.
-            goes_bind _ _ (Some 0) None (goes-roomy at b) (λ _.
+            goes_free _ _ (goes-iterable _ _) (λ _.
+            goes_free _ _ (goes-does _) (λ b.
+            goes_free _ _ (goes-roomy at b) (λ _.
             goes_sub _ None (good_items _ _ (empty p) at (stmts p) (q p) (hs p) (λ i. for_ends _ c i (m.item v i)) (hf p)))))))),
         refl,
       )
       goes-begun at (BreakLoop e b) =
-          (Some (expr_charges e + 0), goes_bind _ _ (Some (expr_charges e)) (Some 0) (goes-optional e) (λ v. goes-ends _), plus_assoc (Some 1) (Some (expr_charges e)) (Some 0) ∙ plus_zero _)
+          (Some (expr_charges e), goes_then _ _ (goes-optional e) (λ v. goes-ends _), refl)
       goes-begun at (TryCatch p p' n) =
           (plus (q p) (q p'), goes_bind _ _ (q p) (q p') (goes-outcome _ (q p) (good_run p)) (λ o. goes-tried at n p' o), refl)
       goes-begun at (Return e t) =
-          (Some (expr_charges e + 0), goes_bind _ _ (Some (expr_charges e)) (Some 0) (goes-optional e) (λ v. goes-ends _), plus_assoc (Some 1) (Some (expr_charges e)) (Some 0) ∙ plus_zero _)
+          (Some (expr_charges e), goes_then _ _ (goes-optional e) (λ v. goes-ends _), refl)
       goes-begun at (Import e n) = (
         Some 1,
-        goes_bind _ _ (Some 0) (Some 1) (goes-does _) (λ b.
-            goes_bind _ _ (Some 0) (Some 1) (goes-loadable at b) (λ _.
-            goes_bind _ _ (Some 1) (Some 0) (goes-evaluate e) (λ v.
-            goes_bind _ _ (Some 0) (Some 0) (goes-path (expr_of m resolver s e).at (m.path v)) (λ p.
-            goes_bind _ _ (Some 0) (Some 0) (goes-resolves (expr_of m resolver s e).at p (resolver p)) (λ k.
-            goes_bind _ _ (Some 0) (Some 0) (goes-does (load (Statements.rule_name_or n) k)) (λ _. goes-give m.unit)))))),
+        goes_free _ _ (goes-does _) (λ b.
+            goes_free _ _ (goes-loadable at b) (λ _.
+            goes_then _ _ (goes-evaluate e) (λ v.
+            goes_free _ _ (goes-path (expr_of m resolver s e).at (m.path v)) (λ p.
+            goes_free _ _ (goes-resolves (expr_of m resolver s e).at p (resolver p)) (λ k.
+            goes_free _ _ (goes-does (load (Statements.rule_name_or n) k)) (λ _. goes-give m.unit)))))),
         refl,
       )
 
