@@ -61,13 +61,11 @@ module _ {S V : Type 0} (m : HostMeaning S V) (w : Setting) where
   heavier (Some a) None g = record { proper = g.proper; bound = tt }
   heavier (Some a) (Some b) g = record { proper = g.proper; bound = λ limit many s. omega (arith, g.bound limit many s) }
 
-  -- what counts nothing has any bound
-  light : {t : Tree V} (c : Option ℕ) → Good t (Some 0) → Good t c
-  light c g = told (plus c (Some 0)) c (plus_zero c) (heavier c (Some 0) g)
-
-  good_done : (o : Out V) → Good (done o) (Some 0)
+  -- what ends at once counts nothing, and so has any bound
+  good_done : {c : Option ℕ} (o : Out V) → Good (done o) c
   unfolding Bound Proper walk
-  good_done o = record { proper = tt; bound = λ limit many s. omega arith }
+  good_done {c = None} o = record { proper = tt; bound = tt }
+  good_done {c = Some n} o = record { proper = tt; bound = λ limit many s. omega arith }
 
   pays-bound : (limit many n : ℕ) (b : Bool) (p : Position) (s : State S V) (t : Tree V) →
       ((s : State S V) → (walk m w limit many t s).state.count ≤ s.count + n) → (pay m w b p s (walk m w limit many t)).state.count ≤ s.count + (1 + n)
@@ -143,8 +141,8 @@ module _ {S V : Type 0} (m : HostMeaning S V) (w : Setting) where
   goes-does : (a : Act V) → Goes (does a) (Some 0)
   goes-does a = record { goes = λ e k ok hk ho. heavier (Some 0) e (good_act a _ e ho) }
 
-  goes_bind : {A B : Type 0} (d : Doing V A) (f : A → Doing V B) (c e : Option ℕ) → Goes d c → ((a : A) → Goes (f a) e) → Goes (d >>= f) (plus c e)
-  goes_bind d f c e hd hf = record {
+  goes_bind : {A B : Type 0} {d : Doing V A} {f : A → Doing V B} (c e : Option ℕ) → Goes d c → ((a : A) → Goes (f a) e) → Goes (d >>= f) (plus c e)
+  goes_bind {A} {B} {d} {f} c e hd hf = record {
     goes = λ x k ok hk ho.
         told (plus c (plus e x)) (plus (plus c e) x) (plus_assoc c e x)
         (hd.goes (plus e x) k (λ a. f a k ok) (λ o. heavier e x (hk o)) (λ a. (hf a).goes x k ok hk ho));
@@ -154,11 +152,11 @@ module _ {S V : Type 0} (m : HostMeaning S V) (w : Setting) where
   costs {A} {d} c e p g = subst (λ x. Goes d x) p g
 
   -- after what counts nothing, and with what counts nothing after it
-  goes_free : {A B : Type 0} (d : Doing V A) (f : A → Doing V B) {e : Option ℕ} → Goes d (Some 0) → ((a : A) → Goes (f a) e) → Goes (d >>= f) e
-  goes_free d f {e} hd hf = costs (plus (Some 0) e) e (zero_plus e) (goes_bind d f (Some 0) e hd hf)
+  goes_free : {A B : Type 0} {d : Doing V A} {f : A → Doing V B} {e : Option ℕ} → Goes d (Some 0) → ((a : A) → Goes (f a) e) → Goes (d >>= f) e
+  goes_free {A} {B} {d} {f} {e} hd hf = costs (plus (Some 0) e) e (zero_plus e) (goes_bind (Some 0) e hd hf)
 
-  goes_then : {A B : Type 0} (d : Doing V A) (f : A → Doing V B) {c : Option ℕ} → Goes d c → ((a : A) → Goes (f a) (Some 0)) → Goes (d >>= f) c
-  goes_then d f {c} hd hf = costs (plus c (Some 0)) c (plus_zero c) (goes_bind d f c (Some 0) hd hf)
+  goes_then : {A B : Type 0} {d : Doing V A} {f : A → Doing V B} {c : Option ℕ} → Goes d c → ((a : A) → Goes (f a) (Some 0)) → Goes (d >>= f) c
+  goes_then {A} {B} {d} {f} {c} hd hf = costs (plus c (Some 0)) c (plus_zero c) (goes_bind c (Some 0) hd hf)
 
   goes-pass : (o : Out V) → Goes (pass o) (Some 0)
   goes-pass (value v) = goes-give v
@@ -227,20 +225,20 @@ module _ {S V : Type 0} (m : HostMeaning S V) (w : Setting) where
 
   module _ (resolver : ℕ → Resolved) (s : List ℕ) where
     goes-worth : (at : Position) (x : ExprKind) → Goes (worth m resolver s at x) (Some 0)
-    goes-worth at (HostCode c) = goes_free _ _ (goes-does _) (λ r. goes-answered at r)
+    goes-worth at (HostCode c) = goes_free (goes-does _) (λ r. goes-answered at r)
     goes-worth at UnitExpr = goes-give m.unit
     goes-worth at False = goes-give (m.make_truth false)
     goes-worth at True = goes-give (m.make_truth true)
 
     goes-evaluate : (e : ℕ) → Goes (evaluate m resolver s e) (Some 1)
-    goes-evaluate e = goes_then _ _ (goes-pays _) (λ _. goes-worth (expr_of m resolver s e).at (expr_of m resolver s e).kind)
+    goes-evaluate e = goes_then (goes-pays _) (λ _. goes-worth (expr_of m resolver s e).at (expr_of m resolver s e).kind)
 
     goes-optional : (e : Option ℕ) → Goes (optional m resolver s e) (Some (expr_charges e))
     goes-optional None = goes-give m.unit
     goes-optional (Some e) = goes-evaluate e
 
     goes-condition : (e : ℕ) → Goes (condition m resolver s e) (Some 1)
-    goes-condition e = goes_then _ _ (goes-evaluate e) (λ v. goes-known (expr_of m resolver s e).at (m.truth v))
+    goes-condition e = goes_then (goes-evaluate e) (λ v. goes-known (expr_of m resolver s e).at (m.truth v))
 
     goes-combined : (at : Position) (o : Option ℕ) (old v : V) → Goes (combined m resolver s at o old v) (Some 0)
     goes-combined at None old v = goes-give v
@@ -265,7 +263,7 @@ module _ {S V : Type 0} (m : HostMeaning S V) (w : Setting) where
     module _ (stmts : Option ℕ → Tree V) (empty : Option ℕ → Bool) (q : Option ℕ → Option ℕ)
         (hs : (p : Option ℕ) → Good (stmts p) (q p)) (hf : (p : Option ℕ) → empty p ≡ false → First (stmts p)) where
       run_by : (b : Bool) (p : Option ℕ) → Good (cond b (done (value m.unit)) (inner (stmts p))) (q p)
-      run_by true p = light (q p) (good_done _)
+      run_by true p = good_done _
       run_by false p = good_inner (stmts p) (q p) (hs p)
 
       good_run : (p : Option ℕ) → Good (run m resolver s stmts empty p) (q p)
@@ -284,7 +282,7 @@ module _ {S V : Type 0} (m : HostMeaning S V) (w : Setting) where
           go false (Some a) (Some b) g h = record { proper = h.proper; bound = λ limit many s. omega (arith, h.bound limit many s) }
 
       goes-body : (b : Bool) (at : Position) (p : Option ℕ) → empty p ≡ b → (c : Option ℕ) × Goes (body m resolver s stmts empty b at p) c
-      goes-body true at p e = (Some 1, goes_then _ _ (goes-pays at) (λ _. goes-give m.unit))
+      goes-body true at p e = (Some 1, goes_then (goes-pays at) (λ _. goes-give m.unit))
       goes-body false at p e = (q p, goes_sub (run m resolver s stmts empty p) (q p) (good_run p))
 
       -- a body that is not empty begins with a charge
@@ -300,13 +298,13 @@ module _ {S V : Type 0} (m : HostMeaning S V) (w : Setting) where
       good_while true at e p = let g = goes-body (empty p) at p refl in (g.0, good_alone _ g.0 g.1)
       good_while false at e p = (
         plus (Some 1) (q p),
-        good_alone _ _ (goes_bind _ _ (Some 1) (q p) (goes-condition e) (λ b. goes_free _ _ (goes-turned b) (λ _. goes_sub _ (q p) (good_run p)))),
+        good_alone _ _ (goes_bind (Some 1) (q p) (goes-condition e) (λ b. goes_free (goes-turned b) (λ _. goes_sub _ (q p) (good_run p)))),
       )
 
       good_do : (e : ℕ) (p : Option ℕ) (n : Bool) → (c : Option ℕ) × Good (alone (do_round m resolver s stmts empty e p n)) c
       good_do e p n = (
         plus (q p) (Some 1),
-        good_alone _ _ (goes_bind _ _ (q p) (Some 1) (goes_sub _ (q p) (good_run p)) (λ _. goes_then _ _ (goes-condition e) (λ b. goes-turned (cond n (not b) b)))),
+        good_alone _ _ (goes_bind (q p) (Some 1) (goes_sub _ (q p) (good_run p)) (λ _. goes_then (goes-condition e) (λ b. goes-turned (cond n (not b) b)))),
       )
 
       -- a round of a Do charges in its body, or in its condition
@@ -329,17 +327,17 @@ module _ {S V : Type 0} (m : HostMeaning S V) (w : Setting) where
       goes-caught f (exited p v) = goes-ends _
 
       bind_by : (b : Bool) (r : VarRow V) (p : Option ℕ) → Good (cond b (done (value m.unit)) (binding r (stmts p))) (q p)
-      bind_by true r p = light (q p) (good_done _)
+      bind_by true r p = good_done _
       bind_by false r p = good_binding r (stmts p) (q p) (hs p)
 
       goes-handler : (at : Position) (n : Option Name) (p : Option ℕ) (f : Failure V) → Goes (handler m resolver s stmts empty at n p f) (q p)
       goes-handler at None p f = goes-outcome _ (q p) (good_run p)
       goes-handler at (Some n) p f =
-          goes_free _ _ (goes-does _) (λ b. goes_free _ _ (goes-roomy at b) (λ _. goes-outcome _ (q p) (bind_by (empty p) _ p)))
+          goes_free (goes-does _) (λ b. goes_free (goes-roomy at b) (λ _. goes-outcome _ (q p) (bind_by (empty p) _ p)))
 
       goes-handled : (b : Bool) (at : Position) (n : Option Name) (p : Option ℕ) (f : Failure V) → Goes (handled m resolver s stmts empty b at n p f) (q p)
       goes-handled false at n p f = goes-ends (failed f)
-      goes-handled true at n p f = goes_then _ _ (goes-handler at n p f) (λ o. goes-caught f o)
+      goes-handled true at n p f = goes_then (goes-handler at n p f) (λ o. goes-caught f o)
 
       goes-tried : (at : Position) (n : Option Name) (p : Option ℕ) (o : Out V) → Goes (tried m resolver s stmts empty at n p o) (q p)
       goes-tried at n p (value v) = goes-give v
@@ -351,17 +349,17 @@ module _ {S V : Type 0} (m : HostMeaning S V) (w : Setting) where
 
       goes_declared : (at : Position) (n : Place) (a : Access) (e : ℕ) (r : Option ℕ) → Goes (declared m resolver s stmts empty at n a e r) (Some 1)
       goes_declared at n a e None =
-          goes_free _ _ (goes-does _) (λ b.
-          goes_free _ _ (goes-roomy at b) (λ _.
-          goes_then _ _ (goes-evaluate e) (λ v.
-          goes_free _ _ (goes-does _) (λ c.
-          goes_free _ _ (goes-roomy at c) (λ _.
-          goes_free _ _ (goes-does _) (λ _. goes-give m.unit))))))
+          goes_free (goes-does _) (λ b.
+          goes_free (goes-roomy at b) (λ _.
+          goes_then (goes-evaluate e) (λ v.
+          goes_free (goes-does _) (λ c.
+          goes_free (goes-roomy at c) (λ _.
+          goes_free (goes-does _) (λ _. goes-give m.unit))))))
       goes_declared at n a e (Some r) =
-          goes_then _ _ (goes-evaluate e) (λ v.
-          goes_free _ _ (goes-does _) (λ f.
-          goes_free _ _ (goes-target at n f) (λ t.
-          goes_free _ _ (goes-does _) (λ _. goes-give m.unit))))
+          goes_then (goes-evaluate e) (λ v.
+          goes_free (goes-does _) (λ f.
+          goes_free (goes-target at n f) (λ t.
+          goes_free (goes-does _) (λ _. goes-give m.unit))))
 
       -- each kind of statement: what it counts besides its own charge
       goes-begun : (at : Position) (x : Stmt) → (c : Option ℕ) × Goes (begun m resolver s stmts empty at x) c × (plus (Some 1) c ≡ stmt_quote x (q (parts x).body) (q (parts x).branch))
@@ -370,23 +368,23 @@ module _ {S V : Type 0} (m : HostMeaning S V) (w : Setting) where
       goes-begun at (Block p) = (q p, goes_sub _ (q p) (good_run p), refl)
       goes-begun at (Assignment n e o r) = (
         Some 2,
-        goes_bind _ _ (Some 1) (Some 1) (goes-evaluate e) (λ v.
-            goes_then _ _ (goes-pays at) (λ _.
-            goes_free _ _ (goes-does (find (Statements.rule_name n) r)) (λ f.
-            goes_free _ _ (goes-target at (Statements.rule_name n) f) (λ t.
-            goes_free _ _ (goes-writable at (Statements.rule_name n) t.1.access) (λ _.
-            goes_free _ _ (goes-combined at o t.1.value v) (λ u.
-            goes_free _ _ (goes-does (store t.0 u)) (λ _. goes-give m.unit))))))),
+        goes_bind (Some 1) (Some 1) (goes-evaluate e) (λ v.
+            goes_then (goes-pays at) (λ _.
+            goes_free (goes-does (find (Statements.rule_name n) r)) (λ f.
+            goes_free (goes-target at (Statements.rule_name n) f) (λ t.
+            goes_free (goes-writable at (Statements.rule_name n) t.1.access) (λ _.
+            goes_free (goes-combined at o t.1.value v) (λ u.
+            goes_free (goes-does (store t.0 u)) (λ _. goes-give m.unit))))))),
         refl,
       )
       goes-begun at (Var n e r c) = (
         Some 1,
-        goes_free _ _ (goes-does _) (λ a. goes_free _ _ (goes-permitted at _ a) (λ _. goes_declared at _ _ e r)),
+        goes_free (goes-does _) (λ a. goes_free (goes-permitted at _ a) (λ _. goes_declared at _ _ e r)),
         refl,
       )
       goes-begun at (If e p p') = (
         plus (Some 1) (larger (q p) (q p')),
-        goes_bind _ _ (Some 1) (larger (q p) (q p')) (goes-condition e) (λ b. goes_sub _ (larger (q p) (q p')) (either b p p')),
+        goes_bind (Some 1) (larger (q p) (q p')) (goes-condition e) (λ b. goes_sub _ (larger (q p) (q p')) (either b p p')),
         plus_assoc (Some 1) (Some 1) (larger (q p) (q p')),
       )
       goes-begun at (While e p) =
@@ -397,36 +395,36 @@ module _ {S V : Type 0} (m : HostMeaning S V) (w : Setting) where
           (None, goes_sub _ None (good_rounds _ g.0 g.1 (do_lively e p n)), refl)
       goes-begun at (For n c e p) = (
         None,
-        goes_free _ _ (goes-does _) (λ b.
-            goes_free _ _ (goes-roomy at b) (λ _.
-            goes_bind _ _ (Some 1) None (goes-evaluate e) (λ v.
-            goes_free _ _ (goes-iterable _ _) (λ _.
-            goes_free _ _ (goes-does _) (λ b.
-            goes_free _ _ (goes-roomy at b) (λ _.
+        goes_free (goes-does _) (λ b.
+            goes_free (goes-roomy at b) (λ _.
+            goes_bind (Some 1) None (goes-evaluate e) (λ v.
+            goes_free (goes-iterable _ _) (λ _.
+            goes_free (goes-does _) (λ b.
+            goes_free (goes-roomy at b) (λ _.
             goes_sub _ None (good_items _ _ (empty p) at (stmts p) (q p) (hs p) (λ i. for_ends _ c i (m.item v i)) (hf p)))))))),
         refl,
       )
       goes-begun at (BreakLoop e b) =
-          (Some (expr_charges e), goes_then _ _ (goes-optional e) (λ v. goes-ends _), refl)
+          (Some (expr_charges e), goes_then (goes-optional e) (λ v. goes-ends _), refl)
       goes-begun at (TryCatch p p' n) =
-          (plus (q p) (q p'), goes_bind _ _ (q p) (q p') (goes-outcome _ (q p) (good_run p)) (λ o. goes-tried at n p' o), refl)
+          (plus (q p) (q p'), goes_bind (q p) (q p') (goes-outcome _ (q p) (good_run p)) (λ o. goes-tried at n p' o), refl)
       goes-begun at (Return e t) =
-          (Some (expr_charges e), goes_then _ _ (goes-optional e) (λ v. goes-ends _), refl)
+          (Some (expr_charges e), goes_then (goes-optional e) (λ v. goes-ends _), refl)
       goes-begun at (Import e n) = (
         Some 1,
-        goes_free _ _ (goes-does _) (λ b.
-            goes_free _ _ (goes-loadable at b) (λ _.
-            goes_then _ _ (goes-evaluate e) (λ v.
-            goes_free _ _ (goes-path (expr_of m resolver s e).at (m.path v)) (λ p.
-            goes_free _ _ (goes-resolves (expr_of m resolver s e).at p (resolver p)) (λ k.
-            goes_free _ _ (goes-does (load (Statements.rule_name_or n) k)) (λ _. goes-give m.unit)))))),
+        goes_free (goes-does _) (λ b.
+            goes_free (goes-loadable at b) (λ _.
+            goes_then (goes-evaluate e) (λ v.
+            goes_free (goes-path (expr_of m resolver s e).at (m.path v)) (λ p.
+            goes_free (goes-resolves (expr_of m resolver s e).at p (resolver p)) (λ k.
+            goes_free (goes-does (load (Statements.rule_name_or n) k)) (λ _. goes-give m.unit)))))),
         refl,
       )
 
       good_exec : (x : StmtRow) → Good (exec m resolver s stmts empty x) (stmt_quote x.stmt (q (parts x.stmt).body) (q (parts x.stmt).branch))
       good_exec x =
           let g = goes-begun x.at x.stmt in
-          told (plus (Some 1) g.0) _ g.2 (good_alone _ _ (goes_bind _ _ (Some 1) g.0 (goes-pays x.at) (λ _. g.1)))
+          told (plus (Some 1) g.0) _ g.2 (good_alone _ _ (goes_bind (Some 1) g.0 (goes-pays x.at) (λ _. g.1)))
 
       -- statements in order: those of rows j, j + 1, .. , n of them
       quotes : ℕ → ℕ → Option ℕ
@@ -456,7 +454,7 @@ module _ {S V : Type 0} (m : HostMeaning S V) (w : Setting) where
           (good_seq _ _ c (plus_below (quotes (suc j)) n) (good_exec x)
           (λ o. told (plus (Some 0) (plus_below (quotes (suc j)) n)) _ (zero_plus _)
           ((goes-pass o).goes (plus_below (quotes (suc j)) n) done (λ u. in_order m resolver s stmts empty u (suc j) n)
-          (λ x. light _ (good_done x)) (λ u. good_order u (suc j) n))))
+          (λ x. good_done x) (λ u. good_order u (suc j) n))))
 
     row-stmt : (o : Option StmtRow) → (row_or o).stmt ≡ doing o
     row-stmt None = refl
@@ -474,7 +472,7 @@ module _ {S V : Type 0} (m : HostMeaning S V) (w : Setting) where
 
     pub good_level : (d : ℕ) (p : Option ℕ) → Good (levels m resolver s d p) (named (Some 0) (block_quote s d) p)
     unfolding block_quote quotes
-    good_level zero p = light _ (good_done _)
+    good_level zero p = good_done _
     good_level (suc d) None = good_done _
     good_level (suc d) (Some b) =
         let q = named (Some 0) (block_quote s d) in
