@@ -1,6 +1,7 @@
 -- steps that leave the variables as they are
 use Rattle.std.proofs.Common.{◌≡◌, ℕ, min, List, ◌++◌, map, length, drop, sym, ap, ◌∙◌, arith, take-append-drop}
-use Rattle.std.proofs.lemmas.List.{length-take-le, take_all}
+use Rattle.std.proofs.lemmas.List.{length-take-le}
+use Rattle.std.proofs.Math.Seq.{take-length}
 use Rattle.rows.specs.declared.variable.VarRow.{VarRow}
 use Rattle.rows.specs.Rows.{in_use}
 use Rattle.host.specs.Meaning.{Step, Grown, Leaves, over, place_of, access_of}
@@ -18,8 +19,8 @@ pub grown_none : {V : Type 0} (limit : ℕ) (rows : List (VarRow V)) → Grown l
 grown_none limit rows = record {
   longer = omega arith;
   limited = omega arith;
-  places = ap (map place_of) (take_all (length rows) rows (omega arith));
-  accesses = ap (map access_of) (take_all (length rows) rows (omega arith));
+  places = ap (map place_of) (take-length rows);
+  accesses = ap (map access_of) (take-length rows);
   added = λ i le lt d. absurd (omega arith);
 }
 

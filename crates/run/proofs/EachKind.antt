@@ -1,6 +1,6 @@
 -- the one walk over the kinds of statements: their loops are lively, and they count no more than their quotes
-use Rattle.std.proofs.Common.{◌≡◌, ℕ, zero, suc, ◌+◌, ◌<◌, ◌≤◌, Bool, true, false, cond, not, eqb, List, [], ◌∷◌, Some, None, Ok, Err, Option, sym, refl, ap, ◌∙◌, subst, add-zero, arith}
-use Rattle.std.proofs.lemmas.Bool.{true≢false}
+use Rattle.std.proofs.Common.{◌≡◌, ℕ, zero, suc, ◌+◌, ◌<◌, ◌≤◌, Bool, true, false, cond, not, eqb, List, [], ◌∷◌, Some, None, Ok, Err, Option, sym, refl, ap, ◌∙◌, subst, add_assoc, add-zero, zero-add, arith}
+use Rattle.std.proofs.lemmas.Bool.{true≢false, cond_both}
 use Rattle.image.specs.declared.rows.ExprKind.{ExprKind}
 use Rattle.image.specs.declared.rows.ExprKind.TheVariants.{Host as HostCode, Unit as UnitExpr, False, True}
 use Rattle.image.specs.declared.rows.Name.{Name}
@@ -32,7 +32,7 @@ plus_assoc : (a b c : Option ℕ) → plus a (plus b c) ≡ plus (plus a b) c
 plus_assoc None b c = refl
 plus_assoc (Some a) None c = refl
 plus_assoc (Some a) (Some b) None = refl
-plus_assoc (Some a) (Some b) (Some c) = let e : a + (b + c) ≡ a + b + c = omega arith in ap (λ n. Some n) e
+plus_assoc (Some a) (Some b) (Some c) = ap (λ n. Some n) (sym (add_assoc a b c))
 
 plus_zero : (a : Option ℕ) → plus a (Some 0) ≡ a
 plus_zero None = refl
@@ -40,7 +40,7 @@ plus_zero (Some a) = ap (λ n. Some n) (add-zero a)
 
 zero_plus : (a : Option ℕ) → plus (Some 0) a ≡ a
 zero_plus None = refl
-zero_plus (Some a) = let e : 0 + a ≡ a = omega arith in ap (λ n. Some n) e
+zero_plus (Some a) = ap (λ n. Some n) (zero-add a)
 
 module _ {S V : Type 0} (m : HostMeaning S V) (w : Setting) where
   -- a bound on what a tree counts, if there is one
@@ -262,12 +262,8 @@ module _ {S V : Type 0} (m : HostMeaning S V) (w : Setting) where
 
     module _ (stmts : Option ℕ → Tree V) (empty : Option ℕ → Bool) (q : Option ℕ → Option ℕ)
         (hs : (p : Option ℕ) → Good (stmts p) (q p)) (hf : (p : Option ℕ) → empty p ≡ false → First (stmts p)) where
-      run_by : (b : Bool) (p : Option ℕ) → Good (cond b (done (value m.unit)) (inner (stmts p))) (q p)
-      run_by true p = good_done _
-      run_by false p = good_inner (stmts p) (q p) (hs p)
-
       good_run : (p : Option ℕ) → Good (run m resolver s stmts empty p) (q p)
-      good_run p = run_by (empty p) p
+      good_run p = cond_both (empty p) _ _ (λ t. Good t (q p)) (λ e. good_done _) (λ e. good_inner (stmts p) (q p) (hs p))
 
       either : (b : Bool) (p p' : Option ℕ) → Good (run m resolver s stmts empty (cond b p p')) (larger (q p) (q p'))
       unfolding Bound
@@ -326,14 +322,10 @@ module _ {S V : Type 0} (m : HostMeaning S V) (w : Setting) where
       goes-caught f (returned v) = goes-ends _
       goes-caught f (exited p v) = goes-ends _
 
-      bind_by : (b : Bool) (r : VarRow V) (p : Option ℕ) → Good (cond b (done (value m.unit)) (binding r (stmts p))) (q p)
-      bind_by true r p = good_done _
-      bind_by false r p = good_binding r (stmts p) (q p) (hs p)
-
       goes-handler : (at : Position) (n : Option Name) (p : Option ℕ) (f : Failure V) → Goes (handler m resolver s stmts empty at n p f) (q p)
       goes-handler at None p f = goes-outcome _ (q p) (good_run p)
       goes-handler at (Some n) p f =
-          goes_free (goes-does _) (λ b. goes_free (goes-roomy at b) (λ _. goes-outcome _ (q p) (bind_by (empty p) _ p)))
+          goes_free (goes-does _) (λ b. goes_free (goes-roomy at b) (λ _. goes-outcome _ (q p) (cond_both (empty p) _ _ (λ t. Good t (q p)) (λ e. good_done _) (λ e. good_binding _ (stmts p) (q p) (hs p)))))
 
       goes-handled : (b : Bool) (at : Position) (n : Option Name) (p : Option ℕ) (f : Failure V) → Goes (handled m resolver s stmts empty b at n p f) (q p)
       goes-handled false at n p f = goes-ends (failed f)

@@ -1,7 +1,7 @@
 -- the rows in use of a table that is cut, set or laid over
 use Rattle.std.proofs.Common.{◌≡◌, ℕ, ◌+◌, ◌<◌, ◌≤◌, min, cond, ltb, leb, List, [], ◌∷◌, ◌++◌, length, take, drop, set, sym, refl, ap, ap₂, ◌∙◌, rules, arith}
 use Rattle.std.proofs.lemmas.Bool.{cond-false, cond_both, le-ltb, leb-false}
-use Rattle.std.proofs.lemmas.List.{length-append, length-take-le, length-drop, take_at, take_min, take_more_set, places}
+use Rattle.std.proofs.lemmas.List.{length-take-le, take_at, take_min, take_more_set, places}
 use Rattle.rows.specs.Rows.{in_use}
 use Rattle.names.specs.Lists.{wiped, rewound, shortened}
 use Rattle.host.specs.Meaning.{over}
@@ -32,7 +32,7 @@ module _ {R : Type 0} where
   one_more rows n r lt = take_min (n + 1) (set rows n r) ∙ take_more_set rows n r lt ∙ ap (λ x. x ++ (r ∷ [])) (sym (take_min n rows))
 
   pub over-length : (front rows : List R) → length front ≤ length rows → length (over front rows) ≡ length rows
-  over-length front rows le = omega (arith, length-append front (drop (length front) rows), length-drop (length front) rows)
+  over-length front rows le = search (rules, places)
 
   pub over-used : (front rows : List R) → in_use (over front rows) (length front) ≡ front
   over-used front rows = take_min (length front) (over front rows) ∙ take_at front (drop (length front) rows) (length front) refl

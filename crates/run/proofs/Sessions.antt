@@ -1,7 +1,7 @@
 -- what a session promises
-use Rattle.std.proofs.Common.{◌≡◌, ℕ, ◌+◌, ◌≤◌, Bool, true, false, eqb, leb, ◌⊎◌, List, [], ◌∷◌, ◌++◌, map, length, take, drop, Some, None, Ok, Option, Result, sym, refl, ap, ◌∙◌, subst, inl, inr, arith}
+use Rattle.std.proofs.Common.{◌≡◌, ℕ, ◌+◌, ◌≤◌, Bool, true, false, eqb, leb, ◌⊎◌, List, [], ◌∷◌, ◌++◌, map, length, take, drop, is_ok, Some, None, Ok, Option, Result, sym, refl, ap, ◌∙◌, subst, inl, inr, arith}
 use Rattle.std.proofs.lemmas.List.{length-take, take-take, take-append-le, take_min}
-use Rattle.std.proofs.lemmas.Bool.{or_parts, ltb-false, leb-false}
+use Rattle.std.proofs.lemmas.Bool.{false≢true, or_parts, ltb-false, leb-false}
 use Rattle.std.proofs.lemmas.Option.{none-some, same_Some}
 use Rattle.image.specs.Layouts.{headed, counted as sized}
 use Rattle.image.specs.declared.refusal.Refusal.{Refusal}
@@ -66,7 +66,7 @@ lent_used n k table le = take_min k (take n table) ∙ take-take k n table (omeg
 -- an answer that went through a test
 through : (b : Bool) (r : Refusal) (a : Result (Option ℕ) Refusal) (x : Option ℕ) → unless b r a ≡ Ok x → a ≡ Ok x
 through true r a x e = e
-through false r a x e = absurd (let z : ◌≡◌ {A = ℕ} 0 1 = cc e in omega arith)
+through false r a x e = absurd (false≢true (ap is_ok e))
 
 -- what the check answers is the quote
 quote_of : (s : List ℕ) (q : Option ℕ) → checked s ≡ Ok q → quote s ≡ q
@@ -186,12 +186,12 @@ module _ {S V W : Type 0} (m : HostMeaning S V) (laws : HostLaws m) (idle : W) (
     agree : (cs : List (Lent × Call V)) (u : World S V W) → Agree (calls m idle resolver t low cs u) (calls m idle resolver t high cs u)
     unfolding calls Alike
     agree [] u = tt
-    agree (c ∷ cs) u = go (call m idle resolver t low c.0 c.1 u) (call m idle resolver t high c.0 c.1 u) (call-alike c.0 c.1 u) (agree cs)
-      where
-        go : (e f : Entry S V W) → (stops e.answer ≡ true) ⊎ (e ≡ f) → ((u : World S V W) → Agree (calls m idle resolver t low cs u) (calls m idle resolver t high cs u)) →
-            Agree (e ∷ calls m idle resolver t low cs e.now) (f ∷ calls m idle resolver t high cs f.now)
-        go e f (inl stop) h = inl stop
-        go e f (inr same') h = inr (same', subst (λ (x : Entry S V W). Agree (calls m idle resolver t low cs e.now) (calls m idle resolver t high cs x.now)) same' (h e.now))
+    agree (c ∷ cs) u =
+        let e = call m idle resolver t low c.0 c.1 u in
+        elim (call-alike c.0 c.1 u) [
+          | inl stop ↦ inl stop
+          | inr same' ↦ inr (same', subst (λ (x : Entry S V W). Agree (calls m idle resolver t low cs e.now) (calls m idle resolver t high cs x.now)) same' (agree cs e.now))
+        ]
 
 pub promise : {S V : Type 0} (W : Type 0) (m : HostMeaning S V) (laws : HostLaws m) (resolver : ℕ → Resolved) → Promise W m resolver
 promise W m laws resolver idle t l host vars imports working law open' high le cs =
