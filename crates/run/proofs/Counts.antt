@@ -6,7 +6,7 @@ use Rattle.host.specs.Meaning.{HostMeaning}
 use Rattle.run.specs.Acts.{By, letting, Act, ask, permit, room, declare, find, store, redeclare, another, load, Tree}
 use Rattle.run.specs.Walk.{Event, Setting, State, perform, push, pushed, push_all, set_all, most, loaded, walk}
 use Rattle.run.specs.Says.{cut, After}
-use Rattle.run.proofs.Every.{Kept, every}
+use Rattle.run.proofs.Every.{Flow, Kept, every}
 
 module _ {S V : Type 0} (m : HostMeaning S V) (w : Setting) (limit many : ℕ) where
   push_free : (b : Bool) (by : By) (r : VarRow V) (s : State S V) → (pushed m w b by r s).state.count ≡ s.count
@@ -39,19 +39,16 @@ module _ {S V : Type 0} (m : HostMeaning S V) (w : Setting) (limit many : ℕ) w
   abbrev Counted : State S V → Bool → State S V → List Event → Type 0
   Counted s b r l = s.count ≤ limit → After limit b r.count
 
+  counted_flow : Flow m w limit many Counted
+  counted_flow = record { idle = λ s h. h; pays = λ s lt h. lt; spends = λ s le h. omega arith; joins = λ s r q b l n h g k. g (h k) }
+
   counted_kept : Kept m w limit many Counted Counted
   counted_kept = record {
-    idle = λ s h. h;
-    pays = λ s lt h. lt;
-    spends = λ s le h. omega arith;
+    flow = counted_flow;
+    flow_own = counted_flow;
     acts = λ a s h. rw (act_free a s) h;
-    joins = λ s r q b l n h g k. g (h k);
     blocks = λ s b r l h. h;
-    idle_own = λ s h. h;
-    pays_own = λ s lt h. lt;
-    spends_own = λ s le h. omega arith;
     sets_own = λ i vs s h. rw (set_all_free i vs s) h;
-    joins_own = λ s r q b l n h g k. g (h k);
     blocks_own = λ s b r l h. h;
     owns = λ by rows s b r l q h k. h (rw (push_all_free by rows s) k);
   }

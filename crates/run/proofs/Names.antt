@@ -346,20 +346,24 @@ module _ {S V : Type 0} (m : HostMeaning S V) (w : Setting) where
     module _ (limit many : ℕ) where
       names_kept : Kept m w limit many P R
       names_kept = record {
-        idle = idle;
-        pays = λ s lt f. paid-keeps s f;
-        spends = λ s le f. paid-keeps s f;
+        flow = record {
+          idle = idle;
+          pays = λ s lt f. paid-keeps s f;
+          spends = λ s le f. paid-keeps s f;
+          joins = λ s r q b l n h g f. let k = h f in joined s r q l n k (g k.fit);
+        };
+        flow_own = record {
+          idle = λ s f. (idle s f, tt);
+          pays = λ s lt f. (paid-keeps s f, tt);
+          spends = λ s le f. (paid-keeps s f, tt);
+          joins = λ s r q b l n h g f.
+              let k = h f in
+              let j = g k.0.fit in
+              (joined s r q l n k.0 j.0, deep_join (suc s.level) l n k.1 (subst (λ x. Deep (suc x) n) k.0.level j.1));
+        };
         acts = acts;
-        joins = λ s r q b l n h g f. let k = h f in joined s r q l n k (g k.fit);
         blocks = λ s b r l h f. leaves s r l f (h (entered s f));
-        idle_own = λ s f. (idle s f, tt);
-        pays_own = λ s lt f. (paid-keeps s f, tt);
-        spends_own = λ s le f. (paid-keeps s f, tt);
         sets_own = λ i vs s f. (sets i vs s f, tt);
-        joins_own = λ s r q b l n h g f.
-            let k = h f in
-            let j = g k.0.fit in
-            (joined s r q l n k.0 j.0, deep_join (suc s.level) l n k.1 (subst (λ x. Deep (suc x) n) k.0.level j.1));
         blocks_own = λ s b r l h f.
             let k = h (entered s f) in
             (leaves s r l f k, deep_join (suc s.level) l _ k.deep tt);

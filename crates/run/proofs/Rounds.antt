@@ -8,7 +8,7 @@ use Rattle.run.specs.Says.{cut, After}
 use Rattle.run.specs.Walk.{Event, End, stopped, ended, Setting, State, Done, noting, charged, perform, enter, go_on, after_round, turns, push_all, set_all, leaving, dropping, owning, pay, bodied, turned, walk}
 use Rattle.run.proofs.Counts.{act_free, push_all_free, set_all_free, counted}
 use Rattle.std.proofs.lemmas.Bool.{ltb-true}
-use Rattle.run.proofs.Every.{Kept, every}
+use Rattle.run.proofs.Every.{Flow, Kept, every}
 
 abbrev pub onward : {V : Type 0} → Out V → Bool
 onward (value v) = true
@@ -40,19 +40,16 @@ Ends (sets vs) = Unit {0}
 
 module _ {S V : Type 0} (m : HostMeaning S V) (w : Setting) where
   module _ (limit many : ℕ) where
+    rises_flow : Flow m w limit many (λ s b r l. s.count ≤ r.count)
+    rises_flow = record { idle = λ s. omega arith; pays = λ s lt. omega arith; spends = λ s le. omega arith; joins = λ s r q b l n h g. omega arith }
+
     rises_kept : Kept m w limit many (λ s b r l. s.count ≤ r.count) (λ s b r l. s.count ≤ r.count)
     rises_kept = record {
-      idle = λ s. omega arith;
-      pays = λ s lt. omega arith;
-      spends = λ s le. omega arith;
+      flow = rises_flow;
+      flow_own = rises_flow;
       acts = λ a s. omega (arith, act_free m w limit many a s);
-      joins = λ s r q b l n h g. omega arith;
       blocks = λ s b r l h. h;
-      idle_own = λ s. omega arith;
-      pays_own = λ s lt. omega arith;
-      spends_own = λ s le. omega arith;
       sets_own = λ i vs s. omega (arith, set_all_free m w limit many i vs s);
-      joins_own = λ s r q b l n h g. omega arith;
       blocks_own = λ s b r l h. h;
       owns = λ by rows s b r l short h. omega (arith, push_all_free m w limit many by rows s);
     }
