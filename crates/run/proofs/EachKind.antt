@@ -1,5 +1,5 @@
 -- the one walk over the kinds of statements: their loops are lively, and they count no more than their quotes
-use Rattle.std.proofs.Common.{◌≡◌, ℕ, zero, suc, ◌+◌, ◌<◌, ◌≤◌, Bool, true, false, cond, not, eqb, List, [], ◌∷◌, Some, None, Ok, Err, Option, sym, refl, ap, ◌∙◌, subst, add_assoc, add-zero, zero-add, arith}
+use Rattle.std.proofs.Common.{◌≡◌, ℕ, zero, suc, ◌+◌, ◌<◌, ◌≤◌, Bool, true, false, cond, not, eqb, List, [], ◌∷◌, Some, None, Ok, Err, Option, sym, refl, ap, ◌∙◌, subst, add_assoc, add-suc, add-zero, suc-add, zero-add, arith}
 use Rattle.std.proofs.lemmas.Bool.{true≢false, cond_both}
 use Rattle.image.specs.declared.rows.ExprKind.{ExprKind}
 use Rattle.image.specs.declared.rows.ExprKind.TheVariants.{Host as HostCode, Unit as UnitExpr, False, True}
@@ -419,8 +419,11 @@ module _ {S V : Type 0} (m : HostMeaning S V) (w : Setting) where
           told (plus (Some 1) g.0) _ g.2 (good_alone _ _ (goes_bind (Some 1) g.0 (goes-pays x.at) (λ _. g.1)))
 
       -- statements in order: those of rows j, j + 1, .. , n of them
+      abbrev quote_at : ℕ → Option ℕ
+      quote_at i = let x = (row_or (stmt_at s i)).stmt in stmt_quote x (q (parts x).body) (q (parts x).branch)
+
       quotes : ℕ → ℕ → Option ℕ
-      quotes j k = stmt_quote (row_or (stmt_at s (j + k))).stmt (q (parts (row_or (stmt_at s (j + k))).stmt).body) (q (parts (row_or (stmt_at s (j + k))).stmt).branch)
+      quotes j k = quote_at (j + k)
 
       first-apart : (f : ℕ → Option ℕ) (n : ℕ) → plus_below f (suc n) ≡ plus (f 0) (plus_below (λ k. f (suc k)) n)
       first-apart f zero = zero_plus (f 0) ∙ sym (plus_zero (f 0))
@@ -435,11 +438,9 @@ module _ {S V : Type 0} (m : HostMeaning S V) (w : Setting) where
       good_order v j zero = good_done (value v)
       good_order v j (suc n) =
           let x = row_or (stmt_at s j) in
-          let c = stmt_quote x.stmt (q (parts x.stmt).body) (q (parts x.stmt).branch) in
-          let here : quotes j 0 ≡ c = ap (λ i. stmt_quote (row_or (stmt_at s i)).stmt (q (parts (row_or (stmt_at s i)).stmt).body) (q (parts (row_or (stmt_at s i)).stmt).branch)) (add-zero j) in
-          let later : (k : ℕ) → quotes (suc j) k ≡ quotes j (suc k) =
-          λ k. let e : suc j + k ≡ j + suc k = omega arith in
-          ap (λ i. stmt_quote (row_or (stmt_at s i)).stmt (q (parts (row_or (stmt_at s i)).stmt).body) (q (parts (row_or (stmt_at s i)).stmt).branch)) e in
+          let c = quote_at j in
+          let here : quotes j 0 ≡ c = ap quote_at (add-zero j) in
+          let later : (k : ℕ) → quotes (suc j) k ≡ quotes j (suc k) = λ k. ap quote_at (suc-add j k ∙ sym (add-suc j k)) in
           told (plus c (plus_below (quotes (suc j)) n)) (plus_below (quotes j) (suc n))
           (ap (λ y. plus y (plus_below (quotes (suc j)) n)) (sym here) ∙ ap (λ y. plus (quotes j 0) y) (same-below (quotes (suc j)) (λ k. quotes j (suc k)) n later)
           ∙ sym (first-apart (quotes j) n))

@@ -259,21 +259,18 @@ module _ {S V : Type 0} (m : HostMeaning S V) (w : Setting) where
       }
 
   -- one import more
-  loads : (b : Bool) (s : State S V) (rows : List ImportRow) (n : ℕ) (x : ImportRow) → ltb s.bound (length s.imports) ≡ b → Fit s →
-      rows ≡ cond b (set s.imports s.bound x) s.imports → n ≡ cond b (s.bound + 1) s.bound →
+  loads : (b : Bool) (s : State S V) (x : ImportRow) → ltb s.bound (length s.imports) ≡ b → Fit s →
+      let rows = cond b (set s.imports s.bound x) s.imports in
+      let n = cond b (s.bound + 1) s.bound in
       (n ≤ length rows) × (length rows ≡ length s.imports) × (s.bound ≤ n) × (take s.bound rows ≡ take s.bound s.imports)
-  loads true s rows n x e f p q =
-      let lt = ltb-true s.bound (length s.imports) e in (
-        omega (arith, ap length p, length-set s.imports s.bound x),
-        ap length p ∙ length-set s.imports s.bound x,
-        omega arith,
-        ap (take s.bound) p ∙ take-set s.imports s.bound x,
-      )
-  loads false s rows n x e f p q = (omega (arith, ap length p, f.imports), ap length p, omega arith, ap (take s.bound) p)
+  loads true s x e f =
+      let wide = length-set s.imports s.bound x in
+      (omega (arith, ltb-true s.bound (length s.imports) e), wide, omega arith, take-set s.imports s.bound x)
+  loads false s x e f = (f.imports, refl, omega arith, refl)
 
   loads_keep : (b : Bool) (p : Place) (n : ℕ) (s : State S V) → Fit s → Keeps s (loaded m w b p n s) []
   loads_keep true p n s f =
-      let l = loads (ltb s.bound (length s.imports)) s (loaded m w true p n s).imports (loaded m w true p n s).bound (import p n) refl f refl refl in
+      let l = loads (ltb s.bound (length s.imports)) s (import p n) refl f in
       record {
         fit = record { names = f.names; imports = l.0 };
         few = λ le. le;
