@@ -1,41 +1,41 @@
 //! Rows as bytes.
 
-ghost use Rattle.std.specs.Prelude.{◌≡◌, ℕ, List, ◌++◌, OnOk};
+ghost use Rattle.std.specs.Prelude.{◌≡◌, ℕ, true, List, length};
 ghost use Rattle.sheet.specs.Encoding.{kind_number, code_or, block_bytes, field_bytes, stmt_bytes, expr_bytes, header_bytes};
+ghost use Rattle.sheet.specs.Ranges.{in_range};
 
-use crate::sheet::{ExprEntry, StmtEntry};
+use crate::sheet::{ExprEntry, Sheet, StmtEntry};
 use image::{Block, ExprKind, Fields};
-use std::alloc::AllocError;
 
-/// A row that is written at the end of an image.
-pub(crate) trait Written {
+/// A row that is written as `N` bytes.
+pub(crate) trait Written<const N: usize> {
     ghost bytes: { Self → List ℕ };
 
-    fn put(&self, image: &mut Vec<u8>) -> Result<(), AllocError>
-        ensures { OnOk result (image.new.items ≡ image.old.items ++ bytes self.now) };
+    fn bytes(&self) -> [u8; N]
+        ensures { result ≡ bytes self.now };
 }
 
-impl Written for Block {
+impl Written<4> for Block {
     ghost bytes = { block_bytes };
 
-    fn put(&self, image: &mut Vec<u8>) -> Result<(), AllocError> {
-        image.extend_from_slice(&block_bytes(*self))
+    fn bytes(&self) -> [u8; 4] {
+        block_bytes(*self)
     }
 }
 
-impl Written for StmtEntry {
+impl Written<20> for StmtEntry {
     ghost bytes = { stmt_bytes };
 
-    fn put(&self, image: &mut Vec<u8>) -> Result<(), AllocError> {
-        image.extend_from_slice(&stmt_bytes(*self))
+    fn bytes(&self) -> [u8; 20] {
+        field_bytes(self.fields())
     }
 }
 
-impl Written for ExprEntry {
+impl Written<8> for ExprEntry {
     ghost bytes = { expr_bytes };
 
-    fn put(&self, image: &mut Vec<u8>) -> Result<(), AllocError> {
-        image.extend_from_slice(&expr_bytes(*self))
+    fn bytes(&self) -> [u8; 8] {
+        expr_bytes(*self)
     }
 }
 
@@ -64,12 +64,6 @@ fn field_bytes(x: Fields) -> [u8; 20]
     ]
 }
 
-fn stmt_bytes(x: StmtEntry) -> [u8; 20]
-    ensures { result ≡ stmt_bytes x }
-{
-    field_bytes(x.fields())
-}
-
 /// The kind's number and the host code.
 fn coded(kind: ExprKind, free: u16) -> (u8, u16)
     ensures number { result.0 ≡ kind_number kind }
@@ -93,12 +87,14 @@ fn expr_bytes(x: ExprEntry) -> [u8; 8]
     [kind, x.unread, l0, l1, c0, c1, h0, h1]
 }
 
-pub(crate) fn header(blocks: u16, statements: u16, expressions: u16, text: u16) -> [u8; 14]
-    ensures { result ≡ header_bytes blocks statements expressions text }
+/// The mark, the version, the zero byte, and how many rows each table has.
+pub(crate) fn header(sheet: Sheet<'_>) -> [u8; 14]
+    requires { in_range sheet ≡ true }
+    ensures { result ≡ header_bytes (length sheet.entry.blocks.now) (length sheet.entry.statements.now) (length sheet.entry.expressions.now) (length sheet.entry.text.now) }
 {
-    let [b0, b1] = blocks.to_le_bytes();
-    let [s0, s1] = statements.to_le_bytes();
-    let [e0, e1] = expressions.to_le_bytes();
-    let [n0, n1] = text.to_le_bytes();
+    let [b0, b1] = (sheet.blocks.len() as u16).to_le_bytes();
+    let [s0, s1] = (sheet.statements.len() as u16).to_le_bytes();
+    let [e0, e1] = (sheet.expressions.len() as u16).to_le_bytes();
+    let [n0, n1] = (sheet.text.len() as u16).to_le_bytes();
     [b'R', b'H', b'S', 1, 0, 0, b0, b1, s0, s1, e0, e1, n0, n1]
 }

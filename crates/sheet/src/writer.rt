@@ -1,4 +1,4 @@
-ghost use Rattle.std.specs.Prelude.{◌≡◌, true, ◌++◌, IfOk, OnOk, MatchResult, Some};
+ghost use Rattle.std.specs.Prelude.{◌≡◌, true, ◌^◌, ◌<◌, ◌++◌, IfOk, OnOk, MatchResult, Some};
 ghost use Rattle.std.specs.List.{flat_map};
 ghost use Rattle.rule.specs.Checked.{checked, examined};
 ghost use Rattle.sheet.specs.Images.{tables, written, ReadsAs, Fails};
@@ -43,11 +43,12 @@ impl From<AllocError> for Unwritten {
     }
 }
 
-fn put_all<R: Written>(image: &mut Vec<u8>, rows: &[R]) -> Result<(), AllocError>
+fn put_all<R: Written<N>, const N: usize>(image: &mut Vec<u8>, rows: &[R]) -> Result<(), AllocError>
+    requires { N < 2 ^ 63 }
     ensures { OnOk result (image.new.items ≡ image.old.items ++ flat_map R.Written.bytes rows.now) }
 {
     for row in rows {
-        row.put(image)?;
+        image.extend_from_slice(&row.bytes())?;
     }
     Ok(())
 }
@@ -67,12 +68,7 @@ fn image_of(heap: Global, sheet: Sheet<'_>) -> Result<Vec<u8>, AllocError>
     ensures { IfOk result (λ v. v.items ≡ written sheet.entry) }
 {
     let mut image = Vec::new(heap);
-    image.extend_from_slice(&header(
-        sheet.blocks.len() as u16,
-        sheet.statements.len() as u16,
-        sheet.expressions.len() as u16,
-        sheet.text.len() as u16,
-    ))?;
+    image.extend_from_slice(&header(sheet))?;
     put_tables(&mut image, sheet)?;
     Ok(image)
 }
