@@ -47,6 +47,7 @@ fn note(counts: &mut [u16; MOST_BLOCKS], named: Option<u16>)
 {
     if let Some(n) = named {
         let n = n as usize;
+        // A table of rows that are not yet known to be sound may name any number.
         if n < MOST_BLOCKS {
             counts[n] += 1;
         }

@@ -7,7 +7,7 @@ use crate::fields::Fields;
 use crate::rows::{ExprKind, Name, Parts, Position, Stmt, StmtRow};
 
 /// The number, unless it is the one that stands for none.
-fn unless(none: u16, n: u16) -> Option<u16>
+fn some_unless(none: u16, n: u16) -> Option<u16>
     ensures { result ≡ (if n == none then None else Some n) }
 {
     (n != none).then_some(n)
@@ -42,11 +42,11 @@ impl Fields {
     fn stmt(self) -> Option<Stmt>
         ensures { result ≡ stmt_of self }
     {
-        let expr = unless(Fields::NONE, self.e);
-        let body = unless(Fields::NONE, self.p);
-        let branch = unless(Fields::NONE, self.q);
+        let expr = some_unless(Fields::NONE, self.e);
+        let body = some_unless(Fields::NONE, self.p);
+        let branch = some_unless(Fields::NONE, self.q);
         let name = name_of(self.name_offset, self.name_length);
-        let index = unless(0, self.r);
+        let index = some_unless(0, self.r);
         match self.kind {
             0 => Some(Stmt::Noop),
             1 => Some(Stmt::Expr { expr: expr? }),
@@ -54,7 +54,7 @@ impl Fields {
             3 => Some(Stmt::Assignment {
                 name: name?,
                 expr: expr?,
-                op: unless(0, self.q),
+                op: some_unless(0, self.q),
                 index,
             }),
             4 => Some(Stmt::Var {
@@ -109,51 +109,36 @@ impl Fields {
     }
 }
 
-const NOTHING: Parts = Parts {
-    expr: None,
-    body: None,
-    branch: None,
-    name: None,
-    counter: None,
-};
-
 impl Stmt {
     /// What the statement refers to.
     pub fn parts(self) -> Parts
         ensures { result ≡ parts self }
     {
         match self {
-            Stmt::Noop => NOTHING,
+            Stmt::Noop => Parts::default(),
             Stmt::Expr { expr } => Parts {
                 expr: Some(expr),
-                ..NOTHING
+                ..Parts::default()
             },
-            Stmt::Block { body } => Parts { body, ..NOTHING },
-            Stmt::Assignment { name, expr, .. } => Parts {
+            Stmt::Block { body } => Parts {
+                body,
+                ..Parts::default()
+            },
+            Stmt::Assignment { name, expr, .. } | Stmt::Var { name, expr, .. } => Parts {
                 expr: Some(expr),
                 name: Some(name),
-                ..NOTHING
-            },
-            Stmt::Var { name, expr, .. } => Parts {
-                expr: Some(expr),
-                name: Some(name),
-                ..NOTHING
+                ..Parts::default()
             },
             Stmt::If { expr, body, branch } => Parts {
                 expr: Some(expr),
                 body,
                 branch,
-                ..NOTHING
+                ..Parts::default()
             },
-            Stmt::While { expr, body } => Parts {
+            Stmt::While { expr, body } | Stmt::Do { expr, body, .. } => Parts {
                 expr: Some(expr),
                 body,
-                ..NOTHING
-            },
-            Stmt::Do { expr, body, .. } => Parts {
-                expr: Some(expr),
-                body,
-                ..NOTHING
+                ..Parts::default()
             },
             Stmt::For {
                 name,
@@ -165,20 +150,22 @@ impl Stmt {
                 body,
                 name: Some(name),
                 counter,
-                ..NOTHING
+                ..Parts::default()
             },
-            Stmt::BreakLoop { expr, .. } => Parts { expr, ..NOTHING },
+            Stmt::BreakLoop { expr, .. } | Stmt::Return { expr, .. } => Parts {
+                expr,
+                ..Parts::default()
+            },
             Stmt::TryCatch { body, branch, name } => Parts {
                 body,
                 branch,
                 name,
-                ..NOTHING
+                ..Parts::default()
             },
-            Stmt::Return { expr, .. } => Parts { expr, ..NOTHING },
             Stmt::Import { expr, name } => Parts {
                 expr: Some(expr),
                 name,
-                ..NOTHING
+                ..Parts::default()
             },
         }
     }

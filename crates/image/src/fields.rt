@@ -5,12 +5,17 @@ pub struct Fields {
     pub flags: u8,
     pub line: u16,
     pub column: u16,
+    /// An expression.
     pub e: u16,
+    /// A block.
     pub p: u16,
+    /// A block, or an operator.
     pub q: u16,
     pub name_offset: u16,
     pub name_length: u16,
+    /// An index, or the offset of a second name.
     pub r: u16,
+    /// The length of a second name.
     pub t: u16,
 }
 

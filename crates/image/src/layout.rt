@@ -10,11 +10,23 @@ pub const MOST_EXPRESSIONS: usize = 1024;
 /// The most bytes that an image's name text has.
 pub const MOST_TEXT: usize = 2048;
 
+/// How many bytes the header has.
+pub(crate) const HEADER_BYTES: usize = 14;
+
+/// How many bytes a block row has.
+pub(crate) const BLOCK_BYTES: usize = 4;
+
+/// How many bytes a statement row has.
+pub(crate) const STATEMENT_BYTES: usize = 20;
+
+/// How many bytes an expression row has.
+pub(crate) const EXPRESSION_BYTES: usize = 8;
+
 /// The most bytes that an image has, with its header.
-pub const MOST_BYTES: usize = 14
-    + 4 * MOST_BLOCKS
-    + 20 * MOST_STATEMENTS
-    + 8 * MOST_EXPRESSIONS
+pub const MOST_BYTES: usize = HEADER_BYTES
+    + BLOCK_BYTES * MOST_BLOCKS
+    + STATEMENT_BYTES * MOST_STATEMENTS
+    + EXPRESSION_BYTES * MOST_EXPRESSIONS
     + MOST_TEXT;
 
 /// Where the tables of an image begin, in bytes, and how many rows each has.

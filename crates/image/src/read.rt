@@ -7,7 +7,10 @@ ghost use Rattle.image.specs.Rows.{block_from, expr_from, fields_from};
 
 use crate::decode::expr_kind;
 use crate::fields::Fields;
-use crate::layout::{Layout, MOST_BLOCKS, MOST_EXPRESSIONS, MOST_STATEMENTS, MOST_TEXT};
+use crate::layout::{
+    BLOCK_BYTES, EXPRESSION_BYTES, Layout, MOST_BLOCKS, MOST_EXPRESSIONS, MOST_STATEMENTS,
+    MOST_TEXT, STATEMENT_BYTES,
+};
 use crate::refusal::Refusal;
 use crate::rows::{Block, Expr, Position};
 
@@ -48,9 +51,9 @@ pub(crate) fn read_layout(image: &[u8]) -> Result<Layout, Refusal>
         return Err(Refusal::Counts);
     }
     let blocks_at = image.len() - tables.len();
-    let statements_at = blocks_at + 4 * blocks;
-    let expressions_at = statements_at + 20 * statements;
-    let text_at = expressions_at + 8 * expressions;
+    let statements_at = blocks_at + BLOCK_BYTES * blocks;
+    let expressions_at = statements_at + STATEMENT_BYTES * statements;
+    let text_at = expressions_at + EXPRESSION_BYTES * expressions;
     if image.len() != text_at + text {
         return Err(Refusal::Counts);
     }
@@ -66,7 +69,7 @@ pub(crate) fn read_layout(image: &[u8]) -> Result<Layout, Refusal>
     })
 }
 
-pub(crate) fn block_from(row: &[u8; 4]) -> Block
+pub(crate) fn block_from(row: &[u8; BLOCK_BYTES]) -> Block
     ensures { result ≡ block_from row.now 0 }
 {
     let [f0, f1, c0, c1] = *row;
@@ -76,7 +79,7 @@ pub(crate) fn block_from(row: &[u8; 4]) -> Block
     }
 }
 
-pub(crate) fn expr_from(row: &[u8; 8]) -> Option<Expr>
+pub(crate) fn expr_from(row: &[u8; EXPRESSION_BYTES]) -> Option<Expr>
     ensures { result ≡ expr_from row.now 0 }
 {
     let [kind, _, l0, l1, c0, c1, h0, h1] = *row;
@@ -88,7 +91,7 @@ pub(crate) fn expr_from(row: &[u8; 8]) -> Option<Expr>
     Some(Expr { at, kind })
 }
 
-pub(crate) fn fields_from(row: &[u8; 20]) -> Fields
+pub(crate) fn fields_from(row: &[u8; STATEMENT_BYTES]) -> Fields
     ensures { result ≡ fields_from row.now 0 }
 {
     let [

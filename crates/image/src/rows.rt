@@ -126,7 +126,7 @@ pub struct StmtRow {
 }
 
 /// The references of a statement, whatever its kind.
-#[derive(Clone, Copy, PartialEq, Eq, Debug)]
+#[derive(Clone, Copy, PartialEq, Eq, Debug, Default)]
 pub struct Parts {
     pub expr: Option<u16>,
     pub body: Option<u16>,

@@ -39,16 +39,15 @@ pub(crate) fn stmt_quote(stmt: Stmt, body: Option<u32>, branch: Option<u32>) -> 
 {
     match stmt {
         Stmt::Noop => Some(1),
-        Stmt::Expr { expr } => Some(1 + expr_charge(expr)),
+        Stmt::Expr { expr } | Stmt::Var { expr, .. } | Stmt::Import { expr, .. } => {
+            Some(1 + expr_charge(expr))
+        }
         Stmt::Block { .. } => plus(Some(1), body),
         Stmt::Assignment { expr, .. } => Some(2 + expr_charge(expr)),
-        Stmt::Var { expr, .. } => Some(1 + expr_charge(expr)),
         Stmt::If { expr, .. } => plus(Some(1 + expr_charge(expr)), larger(body, branch)),
         Stmt::While { .. } | Stmt::Do { .. } | Stmt::For { .. } => None,
-        Stmt::BreakLoop { expr, .. } => Some(1 + expr_charges(expr)),
+        Stmt::BreakLoop { expr, .. } | Stmt::Return { expr, .. } => Some(1 + expr_charges(expr)),
         Stmt::TryCatch { .. } => plus(Some(1), plus(body, branch)),
-        Stmt::Return { expr, .. } => Some(1 + expr_charges(expr)),
-        Stmt::Import { expr, .. } => Some(1 + expr_charge(expr)),
     }
 }
 

@@ -2,14 +2,16 @@ ghost use Rattle.std.specs.Prelude.{◌≡◌, ℕ, ◌+◌, ◌*◌, ◌<◌, �
 ghost use Rattle.image.specs.Layouts.{layout_of, laid_out, empty_image};
 ghost use Rattle.image.specs.Rows.{block, stmt_at, stmt, expr_at, text_of};
 
-use crate::layout::Layout;
+use crate::layout::{BLOCK_BYTES, HEADER_BYTES, Layout};
 use crate::read::{block_from, expr_from, fields_from, read_layout};
 use crate::refusal::Refusal;
 use crate::rows::{Block, Expr, Stmt, StmtRow};
 use crate::tables::Tables;
 
 /// The image of the empty rule: one block of no statements.
-static EMPTY: [u8; 18] = [82, 72, 83, 1, 0, 0, 1, 0, 0, 0, 0, 0, 0, 0, 0, 0, 0, 0];
+static EMPTY: [u8; HEADER_BYTES + BLOCK_BYTES] = [
+    b'R', b'H', b'S', 1, 0, 0, 1, 0, 0, 0, 0, 0, 0, 0, 0, 0, 0, 0,
+];
 
 impl<'a> Tables<'a> {
     /// The tables of the empty rule.
@@ -23,10 +25,10 @@ impl<'a> Tables<'a> {
                 statements: 0,
                 expressions: 0,
                 text: 0,
-                blocks_at: 14,
-                statements_at: 18,
-                expressions_at: 18,
-                text_at: 18,
+                blocks_at: HEADER_BYTES,
+                statements_at: EMPTY.len(),
+                expressions_at: EMPTY.len(),
+                text_at: EMPTY.len(),
             },
         }
     }
