@@ -1,5 +1,5 @@
 -- the one walk over the kinds of statements: their loops are lively, and they count no more than their quotes
-use Rattle.std.proofs.Common.{◌≡◌, ℕ, zero, suc, ◌+◌, ◌<◌, ◌≤◌, Bool, true, false, cond, not, eqb, List, [], ◌∷◌, Some, None, Ok, Err, Option, sym, refl, ap, ◌∙◌, subst, add_assoc, add-suc, add-zero, suc-add, zero-add, arith}
+use Rattle.std.proofs.Common.{◌≡◌, ℕ, zero, suc, ◌+◌, ◌<◌, ◌≤◌, Bool, true, false, cond, not, eqb, List, [], ◌∷◌, Some, None, Ok, Err, Option, sym, refl, ap, ap₂, ◌∙◌, subst, add_assoc, add-suc, add-zero, suc-add, zero-add, arith}
 use Rattle.std.proofs.lemmas.Bool.{true≢false, cond_both}
 use Rattle.image.specs.declared.rows.ExprKind.{ExprKind}
 use Rattle.image.specs.declared.rows.ExprKind.TheVariants.{Host as HostCode, Unit as UnitExpr, False, True}
@@ -431,7 +431,7 @@ module _ {S V : Type 0} (m : HostMeaning S V) (w : Setting) where
 
       same-below : (f g : ℕ → Option ℕ) (n : ℕ) → ((k : ℕ) → f k ≡ g k) → plus_below f n ≡ plus_below g n
       same-below f g zero h = refl
-      same-below f g (suc n) h = ap (λ x. plus x (f n)) (same-below f g n h) ∙ ap (λ x. plus (plus_below g n) x) (h n)
+      same-below f g (suc n) h = ap₂ (λ x y. plus x y) (same-below f g n h) (h n)
 
       good_order : (v : V) (j n : ℕ) → Good (in_order m resolver s stmts empty v j n) (plus_below (quotes j) n)
       unfolding quotes
@@ -442,12 +442,8 @@ module _ {S V : Type 0} (m : HostMeaning S V) (w : Setting) where
           let here : quotes j 0 ≡ c = ap quote_at (add-zero j) in
           let later : (k : ℕ) → quotes (suc j) k ≡ quotes j (suc k) = λ k. ap quote_at (suc-add j k ∙ sym (add-suc j k)) in
           told (plus c (plus_below (quotes (suc j)) n)) (plus_below (quotes j) (suc n))
-          (ap (λ y. plus y (plus_below (quotes (suc j)) n)) (sym here) ∙ ap (λ y. plus (quotes j 0) y) (same-below (quotes (suc j)) (λ k. quotes j (suc k)) n later)
-          ∙ sym (first-apart (quotes j) n))
-          (good_seq _ _ c (plus_below (quotes (suc j)) n) (good_exec x)
-          (λ o. told (plus (Some 0) (plus_below (quotes (suc j)) n)) _ (zero_plus _)
-          ((goes-pass o).goes (plus_below (quotes (suc j)) n) done (λ u. in_order m resolver s stmts empty u (suc j) n)
-          (λ x. good_done x) (λ u. good_order u (suc j) n))))
+          (ap₂ (λ y z. plus y z) (sym here) (same-below (quotes (suc j)) (λ k. quotes j (suc k)) n later) ∙ sym (first-apart (quotes j) n))
+          ((goes_sub _ c (good_exec x)).goes (plus_below (quotes (suc j)) n) done (λ u. in_order m resolver s stmts empty u (suc j) n) good_done (λ u. good_order u (suc j) n))
 
     row-stmt : (o : Option StmtRow) → (row_or o).stmt ≡ doing o
     row-stmt None = refl
