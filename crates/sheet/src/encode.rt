@@ -32,6 +32,7 @@ fn marked(flags: u8, weight: u8, set: bool) -> u8
     ensures { result ≡ marked flags weight set }
 {
     if set {
+        // Any flags may stand in an entry: `write` refuses the large ones before it needs the sum.
         flags.saturating_add(weight)
     } else {
         flags

@@ -78,11 +78,12 @@ fn stmt_fits(stmt: Stmt, flags: u8) -> bool
             expr,
             body,
         } => is_name(name) && may_be_name(counter) && is_row(expr) && may_be_row(body),
-        Stmt::BreakLoop { expr, .. } => may_be_row(expr) && is_free(flags, Fields::BREAK),
+        Stmt::BreakLoop { expr, .. } | Stmt::Return { expr, .. } => {
+            may_be_row(expr) && is_free(flags, Fields::BREAK)
+        }
         Stmt::TryCatch { body, branch, name } => {
             may_be_row(body) && may_be_row(branch) && may_be_name(name)
         }
-        Stmt::Return { expr, .. } => may_be_row(expr) && is_free(flags, Fields::BREAK),
         Stmt::Import { expr, name } => is_row(expr) && may_be_name(name),
     }
 }

@@ -2,7 +2,7 @@ use image::{Block, Expr, StmtRow};
 
 /// What stands in the fields of a statement row that its kind does not read. A name or a counter that is absent leaves its
 /// offset unread.
-#[derive(Clone, Copy, PartialEq, Eq, Debug)]
+#[derive(Clone, Copy, PartialEq, Eq, Debug, Default)]
 pub struct Unread {
     /// The flags without the one that the kind reads, if it reads one.
     pub flags: u8,
@@ -33,7 +33,7 @@ pub struct ExprEntry {
 }
 
 /// The rows of an image, and its name text.
-#[derive(Clone, Copy)]
+#[derive(Clone, Copy, PartialEq, Eq, Debug)]
 pub struct Sheet<'a> {
     pub blocks: &'a [Block],
     pub statements: &'a [StmtEntry],

@@ -1,17 +1,6 @@
 use crate::{ExprEntry, Sheet, StmtEntry, Unread, Unwritten, write};
 use image::{Block, Expr, ExprKind, Name, Position, Stmt, StmtRow};
 
-const NOTHING: Unread = Unread {
-    flags: 0,
-    e: 0,
-    p: 0,
-    q: 0,
-    name_offset: 0,
-    name_length: 0,
-    r: 0,
-    t: 0,
-};
-
 const FIVE: ExprEntry = ExprEntry {
     row: Expr {
         at: Position { line: 1, column: 5 },
@@ -39,7 +28,7 @@ fn declaration(length: u16) -> StmtEntry {
                 constant: false,
             },
         },
-        unread: NOTHING,
+        unread: Unread::default(),
     }
 }
 
