@@ -4,7 +4,7 @@ use Rattle.std.proofs.lemmas.List.{length-take-le}
 use Rattle.std.proofs.Math.Seq.{take-length}
 use Rattle.rows.specs.declared.variable.VarRow.{VarRow}
 use Rattle.rows.specs.Rows.{in_use}
-use Rattle.host.specs.Meaning.{Step, Grown, Leaves, over, place_of, access_of}
+use Rattle.host.specs.Meaning.{Grown, over, place_of, access_of}
 
 -- how many rows are in use
 pub length_in_use : {R : Type 0} (rows : List R) (used : ℕ) → length (in_use rows used) ≡ min used (length rows)
@@ -22,14 +22,4 @@ grown_none limit rows = record {
   places = ap (map place_of) (take-length rows);
   accesses = ap (map access_of) (take-length rows);
   added = λ i le lt d. absurd (omega arith);
-}
-
--- a call that leaves the rows as they are, and answers how many are in use
-pub leaves-same : {S V A : Type 0} (e : Step S V A) (vars : List (VarRow V)) (used used' : ℕ) (s' : S) (a : A) →
-    e.rows ≡ in_use vars used → used' ≡ min used (length vars) → s' ≡ e.state → a ≡ e.answer → Leaves e vars s' vars used' a
-leaves-same e vars used used' s' a same count st an = record {
-  state = st;
-  used = count ∙ sym (ap length same ∙ length_in_use vars used);
-  rows = over_none vars used ∙ ap (λ r. over r vars) (sym same);
-  answer = an;
 }
