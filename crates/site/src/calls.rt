@@ -108,7 +108,7 @@ impl<T: Table> Host for TableHost<T> {
     }
 
     fn is_unit(&self, value: SiteValue) -> bool {
-        value.is_unit()
+        value == SiteValue::Unit
     }
 
     fn truth(&self, value: SiteValue) -> Option<bool> {

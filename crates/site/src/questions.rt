@@ -1,16 +1,10 @@
 ghost use Rattle.std.specs.Prelude.{◌≡◌};
-ghost use Rattle.site.specs.Questions.{is_unit, truth_of, number_up_to, item_of};
+ghost use Rattle.site.specs.Questions.{truth_of, number_up_to, item_of};
 
 use crate::value::SiteValue;
 use host::{Item, NoItem, number_in, number_up_to};
 
 impl SiteValue {
-    pub(crate) fn is_unit(self) -> bool
-        ensures { result ≡ is_unit self }
-    {
-        matches!(self, SiteValue::Unit)
-    }
-
     pub(crate) fn truth(self) -> Option<bool>
         ensures { result ≡ truth_of self }
     {
