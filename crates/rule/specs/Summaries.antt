@@ -1,5 +1,5 @@
 -- the table by which a program finds nesting, stray breaks and quotes of all blocks at once
-use Rattle.std.specs.Prelude.{ℕ, zero, suc, ◌+◌, ◌<◌, ◌≤◌, max, true, ◌&&◌, List, Some, None, Ok, Option, Result, nat_le, slice_index_or}
+use Rattle.std.specs.Prelude.{ℕ, zero, suc, ◌+◌, ◌^◌, ◌<◌, ◌≤◌, max, true, ◌&&◌, List, Some, None, Ok, Option, Result, nat_le, slice_index_or}
 use Rattle.image.specs.declared.refusal.Refusal.{Refusal}
 use Rattle.image.specs.declared.refusal.Refusal.TheVariants.{Nesting, StrayBreak}
 use Rattle.image.specs.declared.rows.Stmt.{Stmt}
@@ -35,7 +35,7 @@ summary_of x f = of_stmt x (f (parts x).body) (f (parts x).branch)
 
 -- of statement k of block b, from those of all blocks
 abbrev pub of_row : List ℕ → (ℕ → Summary) → ℕ → ℕ → Summary
-of_row s f b k = of_stmt (stmt_in s b k) (named absent f (parts (stmt_in s b k)).body) (named absent f (parts (stmt_in s b k)).branch)
+of_row s f b k = summary_of (stmt_in s b k) (named absent f)
 
 abbrev pub joined_below : (ℕ → Summary) → ℕ → Summary
 joined_below f zero = empty
@@ -68,12 +68,12 @@ cost_of x f = 3 + value (f (parts x).body).quote + value (f (parts x).branch).qu
 
 -- at least what statement k of block b adds to the quote of the block
 abbrev pub cost : List ℕ → (ℕ → Summary) → ℕ → ℕ → ℕ
-cost s f b k = 3 + value (named absent f (parts (stmt_in s b k)).body).quote + value (named absent f (parts (stmt_in s b k)).branch).quote
+cost s f b k = cost_of (stmt_in s b k) (named absent f)
 
 -- the sums over block b stay within their types
 pub record Room (s : List ℕ) (f : ℕ → Summary) (b : ℕ) : Type 0 where
   pub heights : (n : ℕ) → (f n).height ≤ 257
-  pub costs : sum_below (cost s f b) (block s b).count < 4294967296
+  pub costs : sum_below (cost s f b) (block s b).count < 2 ^ 32
 
 -- the answer for a rule by the summary of its block 0
 abbrev pub settled : Summary → Result (Option ℕ) Refusal

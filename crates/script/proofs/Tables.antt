@@ -6,13 +6,10 @@ use Rattle.rows.specs.declared.variable.Access.TheVariants.{ReadWrite}
 use Rattle.rows.specs.Rows.{in_use, variable, revalued}
 use Rattle.host.specs.Meaning.{over}
 use Rattle.host.proofs.Steps.{length_in_use, over_none}
-use Rattle.script.specs.declared.answer.EvalAnswer.{EvalAnswer}
-use Rattle.script.specs.declared.answer.EvalAnswer.TheVariants.{Value, Fault, Exit, Code, Mark, Names, Row as RowBack}
 use Rattle.script.specs.declared.effect.Effect.{Effect}
 use Rattle.script.specs.declared.effect.Effect.TheVariants.{Append, Set}
 use Rattle.script.specs.declared.value.ScriptValue.{ScriptValue}
-use Rattle.script.specs.Answers.{answer_in, eval_answer}
-use Rattle.script.specs.Effects.{Row, no_row, back_of, changed, value_in, done, both_done, room_for, used_after, table_after}
+use Rattle.script.specs.Effects.{Row, no_row, back_of, changed, done, room_for, used_after, table_after}
 
 -- rows laid over a table that has room for them leave its length
 length_over : (rows vars : List Row) → length rows ≤ length vars → length (over rows vars) ≡ length vars
@@ -116,30 +113,3 @@ holds_more limit rows vars vars' vars'' used' used'' e h u t = record {
   table = t ∙ ap (λ x. table_after limit x used' e) h.table ∙ ap (λ n. table_after limit (over rows vars) n e) h.used ∙ table-after limit rows vars h.fits e;
   fits = fits_after limit rows vars e h.fits;
 }
-
--- what is read of a table is read of the rows in use
-value-at : (t : Bool) (rows vars : List Row) (k : ℕ) → length rows ≤ length vars → (t ≡ true → length rows - k < length rows) →
-    value_in (over rows vars) (cond t (Some (length rows - k)) None) ≡ value_in rows (cond t (Some (length rows - k)) None)
-value-at false rows vars k le lt = refl
-value-at true rows vars k le lt =
-    let i = length rows - k in
-    let all : i < length (over rows vars) = omega (arith, length_over rows vars le, lt refl) in
-    cond-true _ _ _ (lt-ltb _ _ all) ∙ ap (λ x. x.value) (get_or_append_left rows (drop (length rows) vars) no_row i (lt refl))
-    ∙ sym (cond-true _ _ _ (lt-ltb _ _ (lt refl)))
-
-pub answer-over : (code : ℕ) (mark : Bool) (rows vars : List Row) (a : EvalAnswer) → length rows ≤ length vars →
-    answer_in code mark (over rows vars) (length rows) a ≡ eval_answer code mark rows a
-answer-over code mark rows vars (Value v) le = refl
-answer-over code mark rows vars (Fault f) le = refl
-answer-over code mark rows vars (Exit v) le = refl
-answer-over code mark rows vars Code le = refl
-answer-over code mark rows vars Mark le = refl
-answer-over code mark rows vars Names le = refl
-answer-over code mark rows vars (RowBack k) le =
-    ap (λ v. answer_in code mark rows (length rows) (Value v)) (value-at (ltb 0 k && leb k (length rows)) rows vars k le (back_in_use k (length rows)))
-
--- two effects leave no more rows in use than the table has
-pub fits_both : (limit : ℕ) (vars : List Row) (used : ℕ) (first second : Option Effect) → length (both_done (min limit (length vars)) (in_use vars used) first second) ≤ length vars
-fits_both limit vars used first second =
-    fits_after limit (done (min limit (length vars)) (in_use vars used) first) vars second
-    (fits_after limit (in_use vars used) vars first (omega (arith, length_in_use vars used)))

@@ -1,7 +1,9 @@
 -- the items of ranges and of short sequences
-use Rattle.std.specs.Prelude.{ℕ, ◌*◌, ◌/◌, ◌%◌, true, false, cond, ◌&&◌, ℤ, pos, ◌+ℤ◌, Some, None, Ok, Err, ◌==◌, int_lt, nat_le, nat_lt}
+use Rattle.std.specs.Prelude.{ℕ, ◌*◌, ◌/◌, ◌%◌, true, false, cond, ◌&&◌, ℤ, pos, Some, None, Ok, Err, ◌==◌, nat_le, nat_lt}
+use Rattle.std.specs.Option.{option_map}
 use Rattle.host.specs.declared.answers.Fault.{Fault}
 use Rattle.host.specs.Answers.{Item}
+use Rattle.host.specs.Numbers.{number_in}
 use Rattle.host.specs.declared.answers.NoItem.TheVariants.{Fault as Failed, NotIterable}
 use Rattle.script.specs.declared.value.ScriptValue.{ScriptValue}
 use Rattle.script.specs.declared.value.ScriptValue.TheVariants.{Unit as TheUnit, Truth, Number, Range, Seq}
@@ -9,7 +11,7 @@ use Rattle.script.specs.Operators.{fault_at}
 
 -- a + i while that is below b
 abbrev pub range_item : ℤ → ℤ → ℕ → Item ScriptValue
-range_item a b i = cond (int_lt (a +ℤ pos i) b) (Ok (Some (Number (a +ℤ pos i)))) (Ok None)
+range_item a b i = Ok (option_map Number (number_in a b i))
 
 abbrev pub fault_of_kind : ℕ → Fault
 fault_of_kind kind = cond (kind == 1) (fault_at 61 0 0 true) (cond (kind == 2) (fault_at 62 90 91 true) (fault_at 63 0 0 false))

@@ -1,5 +1,5 @@
 -- the scripted host keeps the rules of hosts
-use Rattle.std.specs.Prelude.{◌≡◌, ℕ, ◌/◌, ◌%◌, ◌≤◌, Bool, true, false, cond, ◌&&◌, pos, ◌+ℤ◌, Some, None, Ok, Err, ◌==◌, int_lt, nat_le, nat_lt, refl}
+use Rattle.std.specs.Prelude.{◌≡◌, ℕ, ◌/◌, ◌%◌, ◌≤◌, Bool, true, false, cond, ◌&&◌, pos, Some, None, Ok, Err, ◌==◌, nat_le, nat_lt, refl}
 use Rattle.std.proofs.Common.{arith}
 use Rattle.std.proofs.lemmas.Bool.{cond-true, le-leb}
 use Rattle.host.specs.Answers.{Item}
@@ -40,7 +40,7 @@ iterable : (v : ScriptValue) (i j : ℕ) → item_of v i ≡ Err NotIterable →
 iterable TheUnit i j e = refl
 iterable (Truth b) i j e = refl
 iterable (Number n) i j e = refl
-iterable (Range a b) i j e = absurd (neither (int_lt (a +ℤ pos i) b) _ _ (not_one _) not_end e)
+iterable (Range a b) i j e = absurd cc
 iterable (Seq k) i j e =
     seq-iterable (nat_lt k 1000) _ _
     (neither (nat_le (k % 10) i) _ _ not_end (neither (nat_lt 0 (k / 100 % 10) && i == k / 10 % 10) _ _ (not_failed (k / 100 % 10)) (not_one _)))

@@ -1,6 +1,7 @@
 -- the values of the scripted host, and what is read of them
-use Rattle.std.specs.Prelude.{ℕ, ◌++◌, codes, decimal, List, ◌-◌, ◌^◌, min, Bool, true, false, cond, ℤ, pos, negsuc, Some, None, Option, nat_le}
+use Rattle.std.specs.Prelude.{ℕ, ◌++◌, codes, decimal, List, ◌-◌, ◌^◌, min, Bool, true, false, ℤ, pos, Some, None, Option}
 use Rattle.std.specs.Fmt.{signed_decimal}
+use Rattle.host.specs.Numbers as numbers
 use Rattle.script.specs.declared.value.ScriptValue.{ScriptValue}
 use Rattle.script.specs.declared.value.ScriptValue.TheVariants.{Unit as TheUnit, Truth, Number, Range, Seq}
 
@@ -24,8 +25,7 @@ truth_in (Seq k) = None
 
 -- a whole number, if it is at most as large as said
 abbrev pub at_most : ℕ → ℤ → Option ℕ
-at_most most (pos n) = cond (nat_le n most) (Some n) None
-at_most most (negsuc n) = None
+at_most = numbers.number_up_to
 
 -- the number in a value, if it is one from 0 up to most
 abbrev pub number_up_to : ℕ → ScriptValue → Option ℕ

@@ -1,5 +1,5 @@
 -- the site host keeps the rules of every host
-use Rattle.std.specs.Prelude.{◌≡◌, ℕ, Bool, true, false, cond, List, Some, None, Ok, Err, ◌≢◌, nat_le, refl}
+use Rattle.std.specs.Prelude.{◌≡◌, ℕ, Bool, List, Some, None, Err, nat_le, refl}
 use Rattle.std.proofs.lemmas.Bool.{le-leb, cond-true}
 use Rattle.host.specs.declared.answers.NoItem.TheVariants as no_item
 use Rattle.host.specs.Meaning.{HostLaws, most_whole}
@@ -10,16 +10,11 @@ use Rattle.site.specs.declared.value.SiteValue.TheVariants as value
 use Rattle.site.specs.Meaning.{site_meaning}
 use Rattle.site.specs.Questions.{item_of}
 
--- an item and an end both say that a value is iterable
-apart : (b : Bool) (v : SiteValue) → cond b (Ok (Some v)) (Ok None) ≢ Err no_item.NotIterable
-apart true v e = cc
-apart false v e = cc
-
 same_at_all : (v : SiteValue) (i j : ℕ) → item_of v i ≡ Err no_item.NotIterable → item_of v j ≡ Err no_item.NotIterable
 same_at_all value.Unit i j e = refl
 same_at_all (value.Truth b) i j e = refl
 same_at_all (value.Number n) i j e = refl
-same_at_all (value.Range a b) i j e = absurd (apart _ _ e)
+same_at_all (value.Range a b) i j e = absurd cc
 
 pub site_laws : {T : Type 0} (exprs : T → List SiteExpr) → HostLaws (site_meaning exprs)
 site_laws exprs = record {

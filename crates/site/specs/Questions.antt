@@ -1,8 +1,10 @@
 -- what a value is asked for
-use Rattle.std.specs.Prelude.{ℕ, Bool, true, false, cond, ℤ, pos, negsuc, ◌+ℤ◌, Some, None, Option, Ok, Err, int_lt, nat_le}
+use Rattle.std.specs.Prelude.{ℕ, Bool, true, false, ℤ, Some, None, Option, Ok, Err}
+use Rattle.std.specs.Option.{option_map}
 use Rattle.host.specs.declared.answers.NoItem.TheVariants as no_item
 use Rattle.host.specs.Answers.{Item}
 use Rattle.host.specs.Meaning.{most_whole}
+use Rattle.host.specs.Numbers as numbers
 use Rattle.site.specs.declared.value.SiteValue.{SiteValue}
 use Rattle.site.specs.declared.value.SiteValue.TheVariants as value
 
@@ -18,10 +20,9 @@ truth_of (value.Truth b) = Some b
 truth_of (value.Number n) = None
 truth_of (value.Range a b) = None
 
--- a number from 0 to m; negsuc n is below 0
+-- a number from 0 to m
 abbrev pub up_to : ℕ → ℤ → Option ℕ
-up_to m (pos n) = cond (nat_le n m) (Some n) None
-up_to m (negsuc n) = None
+up_to = numbers.number_up_to
 
 abbrev pub number_up_to : ℕ → SiteValue → Option ℕ
 number_up_to m value.Unit = None
@@ -39,7 +40,7 @@ path_of = number_up_to 4294967295
 
 -- item i of the numbers from a up to b, which is left out
 abbrev pub item_from : ℤ → ℤ → ℕ → Item SiteValue
-item_from a b i = cond (int_lt (a +ℤ pos i) b) (Ok (Some (value.Number (a +ℤ pos i)))) (Ok None)
+item_from a b i = Ok (option_map value.Number (numbers.number_in a b i))
 
 -- only a range has items
 abbrev pub item_of : SiteValue → ℕ → Item SiteValue

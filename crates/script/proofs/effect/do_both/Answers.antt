@@ -4,8 +4,8 @@ use Rattle.script.specs.Effects.{done}
 use Rattle.script.proofs.Tables.{holds-none, holds_more}
 use Rattle.script.proofs.effect.do_both.Goals as goal
 
-pub returns : goal.returns
-returns c =
+pub returns-clause-rows : goal.returns-clause-rows
+returns-clause-rows c =
     let vars = c.args.vars.now in
     let rows = in_use vars c.args.used in
     let limit = c.args.limit in
@@ -14,4 +14,4 @@ returns c =
     c.do_effect-between.ensures.used c.do_effect-between.ensures.rows in
     let two = holds_more limit (done (min limit (length vars)) rows c.args.first) vars c.do_effect-between.new.vars c.do_effect.new.vars
     c.do_effect-between.result c.do_effect.result c.args.second one c.do_effect.ensures.used c.do_effect.ensures.rows in
-    record { used = two.used; rows = two.table }
+    two.table
