@@ -1,5 +1,5 @@
 ghost use Rattle.std.specs.Prelude.{◌≡◌};
-ghost use Rattle.list.specs.Meaning.{entry_answer, next_answer, onward, unless_present, list_meaning};
+ghost use Rattle.list.specs.Meaning.{onward, unless_present, list_meaning};
 ghost use Rattle.list.specs.Laws.{list_laws};
 
 use crate::value::ListValue;
@@ -30,23 +30,7 @@ const USED_UP: Fault = Fault {
     catchable: false,
 };
 
-fn answer_of(entry: ListEntry) -> Evaluated<ListValue>
-    ensures { result ≡ entry_answer entry }
-{
-    match entry {
-        ListEntry::Value(number) => Ok(ListValue(number)),
-        ListEntry::Exit(number) => Err(Halt::Exit(ListValue(number))),
-    }
-}
-
 impl<'a> ListHost<'a> {
-    fn next_answer(self) -> Evaluated<ListValue>
-        ensures { result ≡ next_answer self.entry.entries.now self.entry.next }
-    {
-        let entry = self.entries.get(self.next).ok_or(Halt::Fault(USED_UP))?;
-        answer_of(*entry)
-    }
-
     /// Goes on by one entry; past the last it stays.
     fn advance(&mut self)
         ensures place { self.new.next ≡ onward self.old.entries.now self.old.next }
@@ -79,9 +63,16 @@ impl<'a> Host for ListHost<'a> {
         used: usize,
         _view: View<'_>,
     ) -> (usize, Evaluated<ListValue>) {
-        let answer = self.next_answer();
+        let used = in_use(vars, used);
+        let entry = self.entries.get(self.next).copied();
         self.advance();
-        (in_use(vars, used), answer)
+        // Each answer is made where it is handed out: a result inside a result costs several times as much when it is
+        // passed on.
+        match entry {
+            Some(ListEntry::Value(number)) => (used, Ok(ListValue(number))),
+            Some(ListEntry::Exit(number)) => (used, Err(Halt::Exit(ListValue(number)))),
+            None => (used, Err(Halt::Fault(USED_UP))),
+        }
     }
 
     fn allow(

@@ -45,7 +45,11 @@ pub(crate) fn item_of(value: ScriptValue, i: u32) -> Item<ScriptValue>
     ensures { result ≡ item_of value i }
 {
     match value {
-        ScriptValue::Range(from, to) => Ok(number_in(from, to, i).map(ScriptValue::Number)),
+        // `Ok(.. .map(..))` would pass an option inside a result on, which takes several times as long.
+        ScriptValue::Range(from, to) => match number_in(from, to, i) {
+            Some(n) => Ok(Some(ScriptValue::Number(n))),
+            None => Ok(None),
+        },
         ScriptValue::Seq(k) => seq_item(k, i),
         _ => Err(NoItem::NotIterable),
     }

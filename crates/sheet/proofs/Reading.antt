@@ -1,5 +1,5 @@
 -- what is read of the image that is written of a sheet
-use Rattle.std.proofs.Common.{◌≡◌, ℕ, zero, suc, ◌+◌, ◌*◌, ◌<◌, true, cond, ◌&&◌, ltb, leb, List, [], ◌∷◌, ◌++◌, length, get_or, drop, Some, None, Err, Option, sym, refl, ap, ◌∙◌, ap₂, inl, inr, arith, lit<}
+use Rattle.std.proofs.Common.{◌≡◌, ℕ, zero, suc, ◌+◌, ◌*◌, ◌<◌, true, cond, ◌&&◌, ltb, leb, List, [], ◌∷◌, ◌++◌, length, get_or, drop, Some, None, Err, Option, sym, refl, ap, ◌∙◌, ap₂, subst, inl, inr, arith, lit<}
 use mathlib.Core.Path.{fun_ext}
 use native.Mathlib.Nat.{mod-add-div}
 use Rattle.std.specs.List.{slice_get, flat_map}
@@ -250,3 +250,10 @@ module _ (x : Sheet) where
     -- and is refused, if at all, by the rules of its rows
     pub header_back : checked (written x) ≡ examined (written x)
     header_back = cond-true (headed (written x)) _ (Err Header) is_headed ∙ cond-true (counted (written x)) _ (Err Counts) is_counted
+
+-- bytes that are those of a sheet in range are read as the sheet
+pub reads_of : (x : Sheet) (v : List ℕ) → in_range x ≡ true → v ≡ written x → ReadsAs v x
+reads_of x v range e = subst (λ v. ReadsAs v x) (sym e) (reads_as x range)
+
+pub header_of : (x : Sheet) (v : List ℕ) → in_range x ≡ true → v ≡ written x → checked v ≡ examined v
+header_of x v range e = subst (λ v. checked v ≡ examined v) (sym e) (header_back x range)

@@ -39,7 +39,7 @@ impl From<AllocError> for Unwritten {
     ghost from_gives = { λ _ e. e ≡ Memory };
 
     fn from(_e: AllocError) -> Unwritten {
-        Unwritten::Memory
+        Self::Memory
     }
 }
 
@@ -74,6 +74,7 @@ fn image_of(heap: Global, sheet: Sheet<'_>) -> Result<Vec<u8>, AllocError>
 }
 
 /// The image of the rows.
+#[tactic(auto, using(crate::proofs::Reading::reads_of, crate::proofs::Reading::header_of))]
 pub fn write(heap: Global, sheet: Sheet<'_>) -> Result<Vec<u8>, Unwritten>
     ensures bytes { IfOk result (λ v. v.items ≡ written sheet.entry) }
     ensures reads { IfOk result (λ v. ReadsAs v.items sheet.entry) }

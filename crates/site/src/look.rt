@@ -23,9 +23,11 @@ impl<'a> Scope<'a> {
         ensures { result ≡ looked (scope_seen self.entry) name }
     {
         let texts = self.view.texts;
-        let found = search(self.vars, self.used, name.text(texts), texts);
-        let i = found.ok_or(Failure::UnknownVariable)?;
-        Ok(self.vars[i].value())
+        // Here and in `answer` `ok_or(..)?` would make a result more, and an evaluation would take a third more time.
+        match search(self.vars, self.used, name.text(texts), texts) {
+            Some(i) => Ok(self.vars[i].value()),
+            None => Err(Failure::UnknownVariable),
+        }
     }
 
     fn operand(self, operand: Operand) -> Result<SiteValue, Failure>
@@ -53,6 +55,9 @@ impl<'a> Scope<'a> {
     pub(crate) fn answer(self, expr: Option<SiteExpr>) -> Result<SiteValue, Failure>
         ensures { result ≡ answer_of expr (scope_seen self.entry) }
     {
-        self.value_of(expr.ok_or(Failure::UnknownCode)?)
+        match expr {
+            Some(expr) => self.value_of(expr),
+            None => Err(Failure::UnknownCode),
+        }
     }
 }

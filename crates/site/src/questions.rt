@@ -29,7 +29,11 @@ impl SiteValue {
         ensures { result ≡ item_of self i }
     {
         match self {
-            SiteValue::Range(from, to) => Ok(number_in(from, to, i).map(SiteValue::Number)),
+            // `Ok(.. .map(..))` would pass an option inside a result on, which takes several times as long.
+            SiteValue::Range(from, to) => match number_in(from, to, i) {
+                Some(n) => Ok(Some(SiteValue::Number(n))),
+                None => Ok(None),
+            },
             _ => Err(NoItem::NotIterable),
         }
     }
