@@ -36,7 +36,7 @@ fn push_segment(heap: Global, image: &mut Vec<u8>, segment: &str) -> anyhow::Res
     };
     let mut bytes = Vec::new(heap);
     for pair in hex.as_bytes().chunks(2) {
-        // `context` would make an error ready for each byte, which takes a third more time.
+        // `context` would make an error ready for each byte, which takes up to a third more time.
         let Some(byte) = byte_of(pair) else {
             return Err(anyhow!("a segment is not hexadecimal"));
         };
